@@ -1,0 +1,19 @@
+-- A shelf of files: what it holds, and what is left of the file that is open.
+use Rattle.std.specs.Prelude.{ℕ, ◌≡◌, ◌<◌, List, length, Option, Some, None, IsSome, IsSomeAnd}
+
+-- a file's bytes by its name, or none
+abbrev pub FileMap : Type 0
+FileMap = List ℕ → Option (List ℕ)
+
+-- the shelf tells what it holds, and lacks the file
+abbrev pub Lacks : Option FileMap → List ℕ → Type 0
+Lacks holds name = IsSomeAnd holds (λ files. files name ≡ None)
+
+-- the file is there, and all its bytes are left
+pub record Opens (file left : Option (List ℕ)) : Type 0 where
+  pub there : IsSome file
+  pub whole : left ≡ file
+
+-- the file is there, and longer than the limit
+abbrev pub IsLonger : Option (List ℕ) → ℕ → Type 0
+IsLonger file limit = IsSomeAnd file (λ bytes. limit < length bytes)
