@@ -1,5 +1,5 @@
 -- A shelf of files: what it holds, and what is left of the file that is open.
-use Rattle.std.specs.Prelude.{ℕ, ◌≡◌, ◌<◌, List, length, Option, Some, None, IsSome, IsSomeAnd}
+use Rattle.std.specs.Prelude.{ℕ, ◌≡◌, ◌<◌, List, length, Option, None, IsSome, IsSomeAnd}
 
 -- a file's bytes by its name, or none
 abbrev pub FileMap : Type 0

@@ -6,7 +6,7 @@ use crate::{
 };
 use std::alloc::{AllocError, Global};
 use std::test::Fail;
-use std::{env, fs};
+use std::{env, fs, process};
 
 /// One file `a` of the bytes 1, 2, 3.
 fn one_file(alloc: Global) -> Result<Vec<(Name, Vec<u8>)>, AllocError> {
@@ -82,7 +82,7 @@ fn each_call_of_a_sink_fails_in_turn(rt: HostRuntime) -> Result<(), Fail> {
 #[test]
 fn real_files_and_streams(rt: HostRuntime) -> Result<(), Fail> {
     let alloc = rt.alloc();
-    let id = rt.process().id();
+    let id = process::id(rt.process());
     let dir = env::temp_dir(&rt)?;
     let path = format!(in alloc; "{}/voodoo-io-edge-{id}", dir.as_path().display())?;
     let mut sink = StreamSink::new(fs::create(&rt, path.as_str())?);
@@ -94,7 +94,7 @@ fn real_files_and_streams(rt: HostRuntime) -> Result<(), Fail> {
         Some(ReadRefusal::TooLong)
     );
     fs::remove_file(&rt, path.as_str())?;
-    assert!(rt; matches!(&bytes, Ok(v) if v.as_slice() == b"a\n1\n"));
+    assert!(rt; matches!(&bytes, Ok(v) if v.as_slice() == b"a\n1\n".as_slice()));
     assert_eq!(rt;
         shelf.open_file(path.as_str()).err(),
         Some(OpenRefusal::Failed)
