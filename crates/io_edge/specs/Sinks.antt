@@ -1,5 +1,7 @@
 -- Sinks: what was written, and sinks in memory.
-use Rattle.std.specs.Prelude.{ℕ, List, Option, take}
+use Rattle.std.specs.Prelude.{ℕ, List, map, Option, take}
+use Rattle.std.specs.List.{concat}
+use Rattle.std.specs.Borrow.{Bor}
 use Rattle.std.specs.Io.KnownBytes.{Appends}
 
 -- what was written grew by a prefix of the text, where the sink tells it
@@ -26,3 +28,7 @@ pub record Steady : Type 0 where
   pub bytes : List ℕ
   pub room : ℕ
   pub faults : ℕ
+
+-- borrowed texts, one after the other
+abbrev pub joined : List (Bor (List ℕ)) → List ℕ
+joined pieces = concat (map (λ piece. piece.now) pieces)

@@ -20,7 +20,7 @@ pub use shelf::{Failed, OpenRefusal, Shelf};
 pub use sink::Sink;
 pub use steady::{SteadyShelf, SteadySink};
 pub use system::{DirShelf, StreamSink};
-pub use writing::write_all;
+pub use writing::{write_all, write_pieces};
 
 /// Memory was refused: the one refusal that no contract foresees.
 pub type NoMemory = std::alloc::AllocError;
