@@ -1,0 +1,5 @@
+pub mod Statuses
+pub mod Outcomes
+pub mod Words
+pub mod Paths
+pub mod Inputs

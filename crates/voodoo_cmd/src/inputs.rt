@@ -1,0 +1,32 @@
+//! A run's files, each read in its role.
+
+ghost use Rattle.std.specs.Prelude.{◌≡◌, ◌≤◌, IfErr, IfSome};
+ghost use Rattle.voodoo_cmd.specs.Inputs.{file_in, HasReadCause};
+ghost use Rattle.voodoo_cmd.specs.Outcomes.{Meets};
+
+use crate::status::{FileRole, Status};
+use io_edge::{ReadRefusal, Shelf, read_all};
+use std::alloc::Global;
+
+/// How long a file may be.
+pub(crate) const FILE_LIMIT: u32 = 65536;
+
+/// The bytes of a file in its role.
+pub(crate) fn read_file<S: Shelf>(
+    alloc: Global,
+    shelf: &mut S,
+    role: FileRole,
+    name: &str,
+) -> Result<Vec<u8>, Status>
+    ensures same_files { S.holds shelf.new ≡ S.holds shelf.old }
+    ensures later { S.faults shelf.old ≤ S.faults shelf.new }
+    ensures bytes { IfSome (S.holds shelf.old) (λ files. Meets (λ v. v.items) result (file_in files role name.now)) }
+    ensures cause { IfErr result (HasReadCause (S.holds shelf.old) role name.now (S.faults shelf.old) (S.faults shelf.new)) }
+{
+    match read_all(alloc, shelf, name, FILE_LIMIT) {
+        Ok(bytes) => Ok(bytes),
+        Err(ReadRefusal::ReadFault) => Err(Status::ReadFault(role)),
+        Err(ReadRefusal::TooLong) => Err(Status::NotYet(role)),
+        Err(ReadRefusal::NoMemory) => Err(Status::NoMemory),
+    }
+}

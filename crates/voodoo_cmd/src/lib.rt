@@ -1,0 +1,10 @@
+//! The top call: from the words of the command line, a shelf of files and two sinks to a status.
+#![tactic(auto)]
+
+mod inputs;
+mod line;
+mod paths;
+mod status;
+mod words;
+
+pub use status::{FileRole, Status, UsageKind};

@@ -1,0 +1,67 @@
+//! How a run ended.
+
+ghost use Rattle.std.specs.Prelude.{◌≡◌};
+ghost use Rattle.voodoo_cmd.specs.Statuses.{status_code};
+
+use std::alloc::AllocError;
+
+/// What is wrong with the words of the command line.
+#[derive(Clone, Copy, Debug, PartialEq, Eq)]
+pub enum UsageKind {
+    /// They are not the words of a command.
+    Words,
+}
+
+/// A file by what it is to the run.
+#[derive(Clone, Copy, Debug, PartialEq, Eq)]
+pub enum FileRole {
+    Schema,
+    /// The file of a table. Tables count from 1, in the schema's order.
+    Table(u32),
+    /// The query.
+    Text,
+}
+
+/// How a run ended. Each status has an exit status and, but for `Done`, one line on standard error.
+#[derive(Clone, Copy, Debug, PartialEq, Eq)]
+pub enum Status {
+    /// The whole answer was written.
+    Done,
+    /// The words of the command line are refused.
+    Usage(UsageKind),
+    /// That file is missing, or reading it failed.
+    ReadFault(FileRole),
+    /// Writing failed. What was written is a prefix of the answer.
+    WriteFault,
+    /// That file is longer, or of another form, than what is understood today.
+    NotYet(FileRole),
+    /// Memory was refused.
+    NoMemory,
+}
+
+impl Status {
+    /// The exit status: 0 where the run is done, else from 2 on.
+    pub fn code(&self) -> u8
+        ensures { result ≡ status_code self.now }
+    {
+        match self {
+            Status::Done => 0,
+            Status::Usage(_) => 2,
+            Status::ReadFault(_) => 3,
+            Status::WriteFault => 4,
+            Status::NoMemory => 12,
+            Status::NotYet(_) => 13,
+        }
+    }
+}
+
+impl From<AllocError> for Status {
+    ghost use Rattle.std.specs.Prelude.{◌≡◌};
+    ghost use Rattle.voodoo_cmd.specs.declared.status.Status.TheVariants.{NoMemory};
+
+    ghost from_gives = { λ _ e. e ≡ NoMemory };
+
+    fn from(_error: AllocError) -> Status {
+        Status::NoMemory
+    }
+}
