@@ -1,0 +1,2 @@
+pub mod ThinRows
+pub mod ThinTable

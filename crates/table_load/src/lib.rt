@@ -1,0 +1,9 @@
+//! Tables from the bytes of their files.
+#![tactic(auto)]
+
+mod thin;
+
+pub use thin::thin_table;
+
+#[cfg(test)]
+mod tests;
