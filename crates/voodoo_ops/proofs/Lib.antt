@@ -1,0 +1,12 @@
+pub mod SumLemmas
+pub mod Vectors
+pub mod Folds
+pub mod Walks
+pub mod Marks
+pub mod Evaluated
+pub mod Narrow
+pub mod NeverOver
+pub mod ColumnSum
+pub mod Compositions
+pub mod ReachLemmas
+pub mod Checks

@@ -1,0 +1,8 @@
+use Rattle.voodoo_ops.proofs.Marks.{Marked}
+use Rattle.voodoo_ops.proofs.reach.reached_marks.Given as goal
+
+abbrev pub invariant-loop-i : goal.invariant-loop-i
+invariant-loop-i l = Marked l.marks.items l.statements l.names.items l.i
+
+abbrev pub decreases-loop-i : goal.decreases-loop-i
+decreases-loop-i l = l.i

@@ -1,0 +1,11 @@
+pub mod Slots
+pub mod Paths
+pub mod Vectors
+pub mod Runs
+pub mod Operators
+pub mod Meaning
+pub mod Check
+pub mod Laws
+pub mod Sums
+pub mod Totals
+pub mod Stops

@@ -1,0 +1,140 @@
+//! The statements of a program.
+
+ghost use Rattle.std.specs.Prelude.{◌≡◌};
+
+use io_edge::Name;
+use std::alloc::AllocError;
+use std::marker::Model;
+
+/// A number leaves 128 bits.
+#[derive(Clone, Copy, Debug, PartialEq, Eq)]
+pub struct Over;
+
+/// Why an evaluation stops early.
+#[derive(Clone, Copy, Debug, PartialEq, Eq)]
+pub(crate) enum Stop {
+    NoMemory,
+    Overflow,
+}
+
+impl From<AllocError> for Stop {
+    ghost use Rattle.voodoo_ops.specs.declared.op.Stop.{Stop};
+
+    ghost from_gives = { λ _ stop. stop ≡ Stop.NoMemory };
+
+    fn from(_: AllocError) -> Stop {
+        Stop::NoMemory
+    }
+}
+
+impl From<Over> for Stop {
+    ghost use Rattle.voodoo_ops.specs.declared.op.Stop.{Stop};
+
+    ghost from_gives = { λ _ stop. stop ≡ Stop.Overflow };
+
+    fn from(_: Over) -> Stop {
+        Stop::Overflow
+    }
+}
+
+/// How long a vector is to be: a number of slots, or as long as the named vector.
+#[derive(Debug, Drop)]
+pub enum Size {
+    Number(u32),
+    Of(Name),
+}
+
+/// What a fold reads and makes: the values at `val` of the vector `a`, in runs of what stands at or
+/// below `run`, folded into the attribute `out`.
+#[derive(Debug, Drop)]
+pub struct FoldArgs {
+    pub a: Name,
+    pub val: Name,
+    pub run: Name,
+    pub out: Name,
+}
+
+/// An operator with its arguments, in the order of the algebra's text.
+#[derive(Debug, Drop)]
+pub enum Op {
+    Load {
+        table: Name,
+    },
+    Persist {
+        a: Name,
+    },
+    Range {
+        size: Size,
+        out: Name,
+        start: i64,
+        step: u64,
+        modulus: u64,
+        divisor: u64,
+    },
+    Zip {
+        a: Name,
+        b: Name,
+    },
+    FoldSum(FoldArgs),
+}
+
+/// `name = op`. The name of a `Persist` is the result's.
+#[derive(Debug, Drop)]
+pub struct Statement {
+    pub name: Name,
+    pub op: Op,
+}
+
+/// Why a program is refused before it runs.
+#[derive(Clone, Copy, Debug, PartialEq, Eq)]
+pub enum ProgramKind {
+    /// It has more than 65,536 statements.
+    TooManyStatements,
+    /// No earlier statement makes a vector of that name, or no table has it.
+    UnknownName,
+    /// A path that is no attribute; where a path names a run, nothing at or below it.
+    NoSuchPath,
+    /// Both operands are numbers, so that the vector has no length.
+    NoLength,
+    /// Two attributes with one path, or one below the other; an attribute at the root.
+    PathClash,
+    /// A path of more than eight segments.
+    TooDeep,
+    /// An order with more than sixteen keys.
+    TooManyKeys,
+    /// A second vector of one name, or a second result.
+    NameTwice,
+    /// No result is named.
+    NoPersist,
+}
+
+/// Statements, which are read in order. Contracts see the list of them.
+#[derive(Debug, Drop)]
+pub struct Program {
+    statements: Vec<Statement>,
+}
+
+impl Model for Program {
+    ghost use Rattle.std.specs.Prelude.{List};
+    ghost use Rattle.voodoo_ops.specs.declared.op.Statement.{Statement};
+
+    ghost Value = { List Statement };
+
+    ghost view = { λ p. p.statements.items };
+}
+
+impl Program {
+    /// The program of these statements.
+    pub fn new(statements: Vec<Statement>) -> Program
+        ensures { result ≡ statements.items }
+    {
+        Program { statements }
+    }
+
+    /// Its statements, in order.
+    pub fn statements(&self) -> &[Statement]
+        ensures { result.now ≡ self.now }
+    {
+        self.statements.as_slice()
+    }
+}
