@@ -1,10 +1,10 @@
 -- A run's files: each read in its role, of the first stage's length and form.
-use Rattle.std.specs.Prelude.{ℕ, ◌⊎◌, ◌≡◌, Bool, List, length, nat_le, Option, Some, None, Result, Ok, Err, if◌then◌else◌}
+use Rattle.std.specs.Prelude.{ℕ, ◌⊎◌, ◌≡◌, List, length, nat_le, Option, Ok, Err, if◌then◌else◌}
 use Rattle.io_edge.specs.Faults.{Rose}
 use Rattle.io_edge.specs.Shelves.{FileMap, Lacks}
 use Rattle.voodoo_cmd.specs.declared.status.FileRole.{FileRole}
 use Rattle.voodoo_cmd.specs.declared.status.Status.{Status}
-use Rattle.voodoo_cmd.specs.declared.status.Status.TheVariants.{ReadFault, NotYet}
+use Rattle.voodoo_cmd.specs.declared.status.Status.TheVariants.{ReadFault, NotYet, NoMemory}
 use Rattle.voodoo_cmd.specs.Outcomes.{Outcome, or_refuse, ◌>>=◌}
 
 -- how long a file may be
@@ -19,7 +19,10 @@ within_limit role bytes = if nat_le (length bytes) file_limit then Ok bytes else
 abbrev pub file_in : FileMap → FileRole → List ℕ → Outcome (List ℕ)
 file_in files role name = or_refuse (ReadFault role) (files name) >>= within_limit role
 
--- why a file in a role was not read: the count of faults rose, or the shelf tells that it lacks the file
-abbrev pub HasReadCause : Option FileMap → FileRole → List ℕ → ℕ → ℕ → Status → Type 0
-HasReadCause holds role name before now (ReadFault r) = (r ≡ role) × (Rose before now ⊎ Lacks holds name)
-HasReadCause holds role name before now _ = Unit {0}
+-- How the reading of a file in its role may end but with its value. A read fault comes only where the count of faults rose, or the
+-- shelf tells that it lacks the file.
+abbrev pub HasFileCause : Option FileMap → FileRole → List ℕ → ℕ → ℕ → Status → Type 0
+HasFileCause holds role name before now (ReadFault r) = (r ≡ role) × (Rose before now ⊎ Lacks holds name)
+HasFileCause holds role name before now (NotYet r) = r ≡ role
+HasFileCause holds role name before now NoMemory = Unit {0}
+HasFileCause holds role name before now _ = ⊥

@@ -3,3 +3,4 @@ pub mod Outcomes
 pub mod Words
 pub mod Paths
 pub mod Inputs
+pub mod Expected

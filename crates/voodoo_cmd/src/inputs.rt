@@ -1,7 +1,7 @@
 //! A run's files, each read in its role.
 
-ghost use Rattle.std.specs.Prelude.{◌≡◌, ◌≤◌, IfErr, IfSome};
-ghost use Rattle.voodoo_cmd.specs.Inputs.{file_in, HasReadCause};
+ghost use Rattle.std.specs.Prelude.{◌≡◌, ◌≤◌, IfErr, IfOk, IfSome, vec_len};
+ghost use Rattle.voodoo_cmd.specs.Inputs.{file_in, file_limit, HasFileCause};
 ghost use Rattle.voodoo_cmd.specs.Outcomes.{Meets};
 
 use crate::status::{FileRole, Status};
@@ -21,7 +21,8 @@ pub(crate) fn read_file<S: Shelf>(
     ensures same_files { S.holds shelf.new ≡ S.holds shelf.old }
     ensures later { S.faults shelf.old ≤ S.faults shelf.new }
     ensures bytes { IfSome (S.holds shelf.old) (λ files. Meets (λ v. v.items) result (file_in files role name.now)) }
-    ensures cause { IfErr result (HasReadCause (S.holds shelf.old) role name.now (S.faults shelf.old) (S.faults shelf.new)) }
+    ensures short { IfOk result (λ v. vec_len v ≤ file_limit) }
+    ensures cause { IfErr result (HasFileCause (S.holds shelf.old) role name.now (S.faults shelf.old) (S.faults shelf.new)) }
 {
     match read_all(alloc, shelf, name, FILE_LIMIT) {
         Ok(bytes) => Ok(bytes),

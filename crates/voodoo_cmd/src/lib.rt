@@ -5,6 +5,13 @@ mod inputs;
 mod line;
 mod paths;
 mod status;
+mod steps;
+mod sum;
+mod top;
 mod words;
 
 pub use status::{FileRole, Status, UsageKind};
+pub use top::run;
+
+#[cfg(test)]
+mod tests;

@@ -1,0 +1,231 @@
+//! What no clause says: that a run succeeds, and the bytes of whole runs, worked out by hand.
+
+use crate::{FileRole, Status, run};
+use io_edge::{MemoryShelf, MemorySink, Name, SteadyShelf, SteadySink};
+use std::alloc::{AllocError, Global};
+use std::test::Fail;
+
+const SCHEMA: &str = "CREATE TABLE t (a INTEGER NOT NULL);\n";
+
+const QUERY: &str = "SELECT SUM(a) FROM t\n";
+
+const WORDS: &str = "voodoo --db s.sql --mode sql --text q.sql";
+
+fn names(alloc: Global, words: &str) -> Result<Vec<Name>, AllocError> {
+    let mut all = Vec::new(alloc);
+    for word in words.split_whitespace() {
+        all.push(Name::of(alloc, word)?)?;
+    }
+    Ok(all)
+}
+
+/// Puts a file with this text on a shelf, where there is any.
+fn put_file(
+    alloc: Global,
+    files: &mut Vec<(Name, Vec<u8>)>,
+    name: &str,
+    text: &str,
+) -> Result<(), AllocError> {
+    if !text.is_empty() {
+        files.push((
+            Name::of(alloc, name)?,
+            Vec::from_slice(alloc, text.as_bytes())?,
+        ))?;
+    }
+    Ok(())
+}
+
+fn shelf_files(
+    alloc: Global,
+    schema: &str,
+    table: &str,
+    query: &str,
+) -> Result<Vec<(Name, Vec<u8>)>, AllocError> {
+    let mut files = Vec::new(alloc);
+    put_file(alloc, &mut files, "s.sql", schema)?;
+    put_file(alloc, &mut files, "t.csv", table)?;
+    put_file(alloc, &mut files, "q.sql", query)?;
+    Ok(files)
+}
+
+/// Whether a run over steady files ends with that code and writes just these texts.
+fn gives(
+    alloc: Global,
+    words: &str,
+    files: Vec<(Name, Vec<u8>)>,
+    code: u8,
+    text: &str,
+    line: &str,
+) -> Result<bool, AllocError> {
+    let mut shelf = SteadyShelf::new(files);
+    let mut out = SteadySink::with_room(alloc, 1000)?;
+    let mut err = SteadySink::with_room(alloc, 1000)?;
+    let words = names(alloc, words)?;
+    let status = run(alloc, words.as_slice(), &mut shelf, &mut out, &mut err);
+    Ok(status.code() == code && out.bytes() == text.as_bytes() && err.bytes() == line.as_bytes())
+}
+
+/// A column `a` of so many rows of `1`, the first with that many zeros before it.
+fn ones(alloc: Global, zeros: usize, rows: usize) -> Result<String, AllocError> {
+    let mut text = String::from_str(alloc, "a\n")?;
+    for _ in 0..zeros {
+        text.push_str("0")?;
+    }
+    for _ in 0..rows {
+        text.push_str("1\n")?;
+    }
+    Ok(text)
+}
+
+/// The query, and blanks up to so many bytes.
+fn long_query(alloc: Global, len: usize) -> Result<String, AllocError> {
+    let mut text = String::from_str(alloc, QUERY)?;
+    for _ in text.len()..len {
+        text.push_str(" ")?;
+    }
+    Ok(text)
+}
+
+#[test]
+fn a_column_is_summed(rt: HostRuntime) -> Result<(), Fail> {
+    let alloc = rt.alloc();
+    let longest = ones(alloc, 0, 32767)?;
+    for (table, text) in [
+        ("a\n1\n2\n3\n", "c1\n6\n"),
+        ("a\n-5\n3\n", "c1\n-2\n"),
+        ("a\n007\n-0\n", "c1\n7\n"),
+        (
+            "a\n999999999999999999\n-1\n999999999999999999\n",
+            "c1\n1999999999999999997\n",
+        ),
+        (longest.as_str(), "c1\n32767\n"),
+    ] {
+        let files = shelf_files(alloc, SCHEMA, table, QUERY)?;
+        assert!(rt; gives(alloc, WORDS, files, 0, text, "")?, "{text}");
+    }
+    Ok(())
+}
+
+#[test]
+fn the_first_refusal_is_the_answer(rt: HostRuntime) -> Result<(), Fail> {
+    let alloc = rt.alloc();
+    let one = "a\n1\n";
+    let too_long = ones(alloc, 1, 32767)?;
+    let blanks = long_query(alloc, 65537)?;
+    for (schema, table, query, code, line) in [
+        ("", one, QUERY, 3, "voodoo: cannot read schema\n"),
+        (SCHEMA, "", QUERY, 3, "voodoo: cannot read table 1\n"),
+        (SCHEMA, one, "", 3, "voodoo: cannot read text\n"),
+        (
+            "CREATE TABLE t (a INTEGER);\n",
+            "",
+            "",
+            13,
+            "voodoo: not yet: schema\n",
+        ),
+        (
+            SCHEMA,
+            too_long.as_str(),
+            "",
+            13,
+            "voodoo: not yet: table 1\n",
+        ),
+        (SCHEMA, "b\n1\n", QUERY, 13, "voodoo: not yet: table 1\n"),
+        (SCHEMA, one, blanks.as_str(), 13, "voodoo: not yet: text\n"),
+        (
+            SCHEMA,
+            one,
+            "SELECT SUM(b) FROM t\n",
+            13,
+            "voodoo: not yet: text\n",
+        ),
+        (
+            SCHEMA,
+            one,
+            "SELECT SUM(a) FROM u\n",
+            13,
+            "voodoo: not yet: text\n",
+        ),
+    ] {
+        let files = shelf_files(alloc, schema, table, query)?;
+        assert!(rt;
+            gives(alloc, WORDS, files, code, "", line)?,
+            "{line} {query}"
+        );
+    }
+    Ok(())
+}
+
+#[test]
+fn words_are_seven_in_their_order(rt: HostRuntime) -> Result<(), Fail> {
+    let alloc = rt.alloc();
+    for words in [
+        "",
+        "voodoo --db s.sql --mode sql --text",
+        "voodoo --mode sql --db s.sql --text q.sql",
+        "voodoo --db s.sql --mode algebra --text q.sql",
+        "voodoo --db s.sql --mode sql --text q.sql more",
+    ] {
+        let files = shelf_files(alloc, SCHEMA, "a\n1\n", QUERY)?;
+        assert!(rt;
+            gives(alloc, words, files, 2, "", "voodoo: usage: Words\n")?,
+            "{words}"
+        );
+    }
+    Ok(())
+}
+
+#[test]
+fn tables_lie_beside_the_schema(rt: HostRuntime) -> Result<(), Fail> {
+    let alloc = rt.alloc();
+    let mut files = Vec::new(alloc);
+    put_file(alloc, &mut files, "d/e/s.sql", SCHEMA)?;
+    put_file(alloc, &mut files, "d/e/t.csv", "a\n4\n")?;
+    put_file(alloc, &mut files, "q.sql", QUERY)?;
+    let words = "voodoo --db d/e/s.sql --mode sql --text q.sql";
+    assert!(rt; gives(alloc, words, files, 0, "c1\n4\n", "")?);
+    Ok(())
+}
+
+/// The status of a run whose n-th call of the shelf fails, or, from the tenth on, whose call of
+/// standard output, and how many bytes of the answer were written.
+fn failing_at(alloc: Global, n: u32) -> Result<(Status, usize), AllocError> {
+    let files = shelf_files(alloc, SCHEMA, "a\n1\n2\n3\n", QUERY)?;
+    let mut shelf = MemoryShelf::new(files, vec![in alloc; n]?);
+    let mut out = MemorySink::with_room(alloc, 9, 2, vec![in alloc; n.saturating_sub(9)]?)?;
+    let mut err = SteadySink::with_room(alloc, 99)?;
+    let words = names(alloc, WORDS)?;
+    let status = run(alloc, words.as_slice(), &mut shelf, &mut out, &mut err);
+    Ok((status, out.bytes().len()))
+}
+
+#[test]
+fn each_call_of_the_outside_fails_in_turn(rt: HostRuntime) -> Result<(), Fail> {
+    // Each file is opened, read, and read again for its end. Standard output takes five bytes by two.
+    for n in 1..=13u32 {
+        let wanted = match n {
+            1..=3 => (Status::ReadFault(FileRole::Schema), 0),
+            4..=6 => (Status::ReadFault(FileRole::Table(1)), 0),
+            7..=9 => (Status::ReadFault(FileRole::Text), 0),
+            10 => (Status::WriteFault, 0),
+            11 => (Status::WriteFault, 2),
+            12 => (Status::WriteFault, 4),
+            _ => (Status::Done, 5),
+        };
+        assert_eq!(rt; failing_at(rt.alloc(), n)?, wanted, "call {n}");
+    }
+    Ok(())
+}
+
+#[test]
+fn a_line_that_fails_changes_nothing_else(rt: HostRuntime) -> Result<(), Fail> {
+    let alloc = rt.alloc();
+    let mut shelf = SteadyShelf::new(Vec::new(alloc));
+    let mut out = SteadySink::with_room(alloc, 0)?;
+    let mut err = MemorySink::with_room(alloc, 99, 7, vec![in alloc; 2]?)?;
+    let words = names(alloc, WORDS)?;
+    let status = run(alloc, words.as_slice(), &mut shelf, &mut out, &mut err);
+    assert_eq!(rt; status, Status::ReadFault(FileRole::Schema));
+    assert_eq!(rt; err.bytes(), b"voodoo:".as_slice());
+    Ok(())
+}
