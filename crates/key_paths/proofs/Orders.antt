@@ -2,7 +2,8 @@
 use Rattle.std.proofs.Common.{◌≡◌, ℕ, ◌<◌, Bool, true, false, ◌&&◌, ◌||◌, List, [], ◌∷◌, ◌++◌, length, drop, refl, ap, sym, ◌∙◌, arith, ◌⊎◌, inl, inr}
 use Rattle.std.specs.Prelude.{nat_le, nat_eq}
 use Rattle.std.specs.List.{list_all, starts_with}
-use Rattle.std.specs.Ordering.{nat_cmp, is_lt}
+use Rattle.std.specs.Ordering.{nat_cmp, is_lt, is_eq, ordering_reverse}
+use Rattle.std.proofs.lemmas.Map.Text.{is_eq-slice_cmp}
 use Rattle.std.specs.declared.cmp.Ordering.{Ordering}
 use Rattle.std.specs.declared.cmp.Ordering.TheVariants.{Less, Equal, Greater}
 use Rattle.std.specs.Cmp.Lexicographic.{slice_cmp}
@@ -54,6 +55,9 @@ text_from_dot (s ∷ ss) h = joined_from_dot (s ∷ ss) h
 
 pub path_from_dot : (text : List ℕ) → IsPath text → list_all (λ b. nat_le 46 b) text ≡ true
 path_from_dot text h = rw h.is (text_from_dot h.segments h.each)
+
+no_true : {b : Bool} → b ≡ false → b ≡ true → ⊥
+no_true h k = cc
 
 -- ---- orders
 
@@ -162,3 +166,38 @@ below_between above x y h k l b = or_more (is_root above) (goes_on y above) (goe
 
 pub before_trans : (x y z : List ℕ) → is_before x y ≡ true → is_before y z ≡ true → is_before x z ≡ true
 before_trans x y z h k = rw (nat_list_cmp_total.trans x y z (less_from_test _ h) (less_from_test _ k)) refl
+
+or_second : (a b : Bool) → b ≡ true → (a || b) ≡ true
+or_second true b h = refl
+or_second false b h = h
+
+starts_with_itself : (p : List ℕ) → starts_with nat_eq p p ≡ true
+starts_with_itself [] = refl
+starts_with_itself (x ∷ p) = rw (same_test x x refl) (starts_with_itself p)
+
+ends_itself : (p : List ℕ) → begins_segment_or_ends (drop (length p) p) ≡ true
+ends_itself [] = refl
+ends_itself (x ∷ p) = ends_itself p
+
+goes_on_itself : (p : List ℕ) → goes_on p p ≡ true
+goes_on_itself p = and_both _ _ (starts_with_itself p) (ends_itself p)
+
+-- a path is at or below itself
+pub at_or_below_itself : (p : List ℕ) → is_at_or_below p p ≡ true
+at_or_below_itself p = or_second (is_root p) (goes_on p p) (goes_on_itself p)
+
+-- an order goes one way
+pub not_before_back : (p q : List ℕ) → is_before p q ≡ true → is_before q p ≡ false
+not_before_back p q h = rw (nat_list_cmp_total.antisymm q p, less_from_test (slice_cmp nat_cmp p q) h) refl
+
+equal_from_cmp : (p q : List ℕ) → slice_cmp nat_cmp p q ≡ Equal → p ≡ q
+equal_from_cmp p q e = (bytes_eq-Decides p q).0 (sym (is_eq-slice_cmp p q) ∙ ap is_eq e)
+
+three_ways : (p q : List ℕ) (o : Ordering) → slice_cmp nat_cmp p q ≡ o → is_before q p ≡ false → (is_before p q ≡ true) ⊎ (p ≡ q)
+three_ways p q Less e h = inl (ap is_lt e)
+three_ways p q Equal e h = inr (equal_from_cmp p q e)
+three_ways p q Greater e h = absurd (no_true h (ap is_lt (nat_list_cmp_total.antisymm q p ∙ ap ordering_reverse e)))
+
+-- a path that does not come before another comes after it, or is equal
+pub before_or_equal : (p q : List ℕ) → is_before q p ≡ false → (is_before p q ≡ true) ⊎ (p ≡ q)
+before_or_equal p q h = three_ways p q (slice_cmp nat_cmp p q) refl h

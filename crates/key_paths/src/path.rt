@@ -64,6 +64,14 @@ impl Path {
         is_root(above) || (path.starts_with(above) && ends_segment(path, above.len()))
     }
 
+    /// Whether the path is `.`, the root.
+    pub fn is_root(&self) -> bool
+        ensures root { result ≡ is_root self.now }
+        ensures path { IsPath self.now }
+    {
+        is_root(self.text.as_bytes())
+    }
+
     /// The path's text.
     pub fn text(&self) -> &str
         ensures text { result.now ≡ self.now }

@@ -1,0 +1,5 @@
+pub mod ColumnLaws
+pub mod VectorLaws
+pub mod MakerLaws
+pub mod ShapeLaws
+pub mod ArrangeLaws

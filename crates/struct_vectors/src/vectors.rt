@@ -1,0 +1,171 @@
+//! Structured vectors.
+ghost use Rattle.std.specs.Prelude.{◌≡◌, ◌+◌, ◌^◌, ◌<◌, ◌≤◌, length, vec_len, MatchOption, IfOk, IfErr};
+ghost use Rattle.std.specs.Option.{option_copied};
+ghost use Rattle.std.specs.List.{All};
+ghost use Rattle.std.specs.Map.{lookup};
+ghost use Rattle.std.specs.Str.{bytes_eq};
+ghost use Rattle.std.specs.List.Sorted.{IsPermutation, IsSortedByKey};
+ghost use Rattle.std.specs.Cmp.Lexicographic.{slice_cmp};
+ghost use Rattle.std.specs.Ordering.{nat_cmp};
+ghost use Rattle.struct_vectors.specs.Vectors.{IsShaped, IsArranged, IsBelowRoot, IsUniform, IsFirstOther, IsClashAt, HasNoClash, paths_of, columns_of};
+ghost use Rattle.struct_vectors.specs.Refusals.{Refuses, NamesNeighbours};
+
+use crate::NoMemory;
+use crate::columns::Column;
+use crate::shapes::ShapeRefusal;
+use key_paths::Path;
+use std::alloc::Global;
+use std::marker::Model;
+
+/// Columns of one length, each named by a path. They are ascending by path, and no path is the root,
+/// equal to another or a prefix of another.
+#[derive(Debug, Drop)]
+pub struct StructVector {
+    count: u32,
+    paths: Vec<Path>,
+    columns: Vec<Column>,
+}
+
+impl Model for StructVector {
+    ghost use Rattle.std.specs.Prelude.{◌≡◌, length};
+    ghost use Rattle.std.specs.List.{zip};
+    ghost use Rattle.struct_vectors.specs.Vectors.{VectorValue, vector_of, IsShaped};
+
+    ghost Value = { VectorValue };
+
+    ghost view = { λ v. vector_of v.count (zip v.paths.items v.columns.items) };
+
+    ghost invariant = { λ v. (length v.columns.items ≡ length v.paths.items)
+        × IsShaped (vector_of v.count (zip v.paths.items v.columns.items)) };
+}
+
+impl StructVector {
+    /// The vector of `n` slots with these attributes, in whatever order they come.
+    pub fn new(
+        alloc: Global,
+        n: u32,
+        attributes: Vec<(Path, Column)>,
+    ) -> Result<StructVector, ShapeRefusal>
+        requires short { n ≤ 2 ^ 22 }
+        requires some { 1 ≤ vec_len attributes }
+        requires few { vec_len attributes < 2 ^ 32 }
+        requires named { All (λ a. IsBelowRoot a.0) attributes.items }
+        ensures length { IfOk result (λ v. v.length ≡ n) }
+        ensures attributes { IfOk result (λ v. IsArranged attributes.items v.attributes) }
+        ensures shaped { IfOk result IsShaped }
+        ensures refused { IfErr result (Refuses n attributes.items) }
+    {
+        if let Some(attribute) = first_of_other_length(n, attributes.as_slice()) {
+            return Err(ShapeRefusal::LengthDiffers { attribute });
+        }
+        let mut attributes = attributes;
+        sort_by_path(&mut attributes);
+        if let Some(place) = first_clash(attributes.as_slice()) {
+            return Err(clash_at(attributes, place));
+        }
+        let (paths, columns) = parted(alloc, attributes)?;
+        Ok(StructVector {
+            count: n,
+            paths,
+            columns,
+        })
+    }
+
+    /// How many slots each attribute has.
+    pub fn len(&self) -> u32
+        ensures len { result ≡ self.now.length }
+        ensures shaped { IsShaped self.now }
+    {
+        self.count
+    }
+
+    /// The paths, ascending.
+    pub fn paths(&self) -> &[Path]
+        ensures paths { result.now ≡ paths_of self.now.attributes }
+        ensures shaped { IsShaped self.now }
+    {
+        self.paths.as_slice()
+    }
+
+    /// The attribute's column, or `None` where no attribute has that path.
+    pub fn column(&self, p: &Path) -> Option<&Column>
+        ensures column { option_copied result ≡ lookup (bytes_eq p.now) self.now.attributes }
+        ensures shaped { IsShaped self.now }
+    {
+        for (i, path) in self.paths.iter().enumerate() {
+            if p == path {
+                return Some(&self.columns[i]);
+            }
+        }
+        None
+    }
+}
+
+/// The first attribute whose column has another length, counted from 0.
+fn first_of_other_length(n: u32, attributes: &[(Path, Column)]) -> Option<u32>
+    requires few { length attributes.now < 2 ^ 32 }
+    requires named { All (λ a. IsBelowRoot a.0) attributes.now }
+    ensures { MatchOption result (IsUniform n attributes.now) (IsFirstOther n attributes.now) }
+{
+    for (i, attribute) in attributes.iter().enumerate() {
+        let is_named = !attribute.0.is_root();
+        prove!(is_named);
+        if attribute.1.len() != n {
+            return Some(i as u32);
+        }
+    }
+    None
+}
+
+/// Sorts attributes by path.
+fn sort_by_path(attributes: &mut Vec<(Path, Column)>)
+    ensures same { IsPermutation attributes.old.items attributes.new.items }
+    ensures sorted { IsSortedByKey (λ a. a.0) (slice_cmp nat_cmp) attributes.new.items }
+{
+    attributes.sort_unstable_by(|a, b| a.0.cmp(&b.0));
+}
+
+/// The first place at which a path and the next one are equal or nested.
+fn first_clash(attributes: &[(Path, Column)]) -> Option<usize>
+    ensures { MatchOption result (HasNoClash (paths_of attributes.now))
+        (IsClashAt (paths_of attributes.now)) }
+{
+    for i in 1..attributes.len() {
+        if attributes[i].0.starts_with(&attributes[i - 1].0) {
+            return Some(i - 1);
+        }
+    }
+    None
+}
+
+/// The refusal of two neighbours that are equal or nested.
+fn clash_at(attributes: Vec<(Path, Column)>, place: usize) -> ShapeRefusal
+    requires { place + 1 < length attributes.items }
+    ensures { NamesNeighbours (paths_of attributes.items) place result }
+{
+    let mut attributes = attributes;
+    let (path, _) = attributes.remove(place + 1);
+    let (above, _) = attributes.remove(place);
+    if path == above {
+        ShapeRefusal::PathRepeated { path }
+    } else {
+        ShapeRefusal::PathNested { above, path }
+    }
+}
+
+/// The paths and the columns of attributes, apart.
+fn parted(
+    alloc: Global,
+    attributes: Vec<(Path, Column)>,
+) -> Result<(Vec<Path>, Vec<Column>), NoMemory>
+    ensures paths { IfOk result (λ parts. parts.0.items ≡ paths_of attributes.items) }
+    ensures columns { IfOk result (λ parts. parts.1.items ≡ columns_of attributes.items) }
+{
+    let mut paths = Vec::with_capacity(alloc, attributes.len())?;
+    let mut columns = Vec::with_capacity(alloc, attributes.len())?;
+    for (path, column) in attributes {
+        paths.push(path)?;
+        columns.push(column)?;
+    }
+    Ok((paths, columns))
+}
