@@ -8,7 +8,7 @@ use Rattle.io_edge.specs.Shelves.{FileMap}
 use Rattle.io_edge.specs.Sinks.{AppendsPrefix}
 use Rattle.sql_read.specs.Thin.{schema_of, query_of}
 use Rattle.table_load.specs.ThinTable.{table_of}
-use Rattle.control_vectors.specs.Folds.{total_of}
+use Rattle.voodoo_ops.specs.Slots.{total_of}
 use Rattle.voodoo_cmd.specs.declared.status.UsageKind.TheVariants as usage
 use Rattle.voodoo_cmd.specs.declared.status.FileRole.{FileRole}
 use Rattle.voodoo_cmd.specs.declared.status.FileRole.TheVariants.{Schema, Table, Text}

@@ -1,7 +1,7 @@
 //! The sum of a column, by a program of vector operators.
 
 ghost use Rattle.std.specs.Prelude.{◌≡◌, ◌≤◌, IfOk, length};
-ghost use Rattle.control_vectors.specs.Folds as folds;
+ghost use Rattle.voodoo_ops.specs.Slots as slots;
 ghost use Rattle.voodoo_cmd.specs.Expected as spec;
 ghost use Rattle.voodoo_cmd.specs.Inputs.{file_limit};
 
@@ -29,7 +29,7 @@ pub(crate) fn sum_text(alloc: Global, numbers: &[i64]) -> Result<Vec<u8>, NoMemo
 fn total_of(alloc: Global, numbers: &[i64]) -> Result<i128, NoMemory>
     requires some { 1 ≤ length numbers.now }
     requires few { length numbers.now ≤ file_limit }
-    ensures { IfOk result (λ total. total ≡ folds.total_of numbers.now) }
+    ensures { IfOk result (λ total. total ≡ slots.total_of numbers.now) }
 {
     match column_total(alloc, numbers) {
         Ok(Some(total)) => Ok(total),
