@@ -19,3 +19,6 @@ pub use refusal::{PathKind, PathRefusal};
 
 /// Memory ran out: the one refusal of a call that only allocates.
 pub type NoMemory = AllocError;
+
+#[cfg(test)]
+mod tests;
