@@ -6,7 +6,7 @@ use Rattle.std.specs.List.Sorted.{IsPermutation, IsSorted, IsSortedByKey}
 use Rattle.std.specs.Ordering.{nat_cmp}
 use Rattle.std.specs.Cmp.Lexicographic.{slice_cmp}
 use Rattle.std.proofs.lemmas.Bool.{false≢true}
-use Rattle.std.proofs.lemmas.List.Sorted.{IsPermutation-map, All-permutation}
+use Rattle.std.proofs.lemmas.List.Sorted.{IsPermutation-map, All-permutation, length_permutation}
 use Rattle.std.proofs.lemmas.List.Elements.{All-cons, All-head, All-tail}
 use Rattle.std.proofs.lemmas.Option.{slice_get_within, slice_get-get_or, same_Some}
 use Rattle.key_paths.specs.Paths.{IsPath}
@@ -119,12 +119,13 @@ all_paths_of P xs h k d l =
     let e : (get_or xs k (d, some_column)).0 ≡ get_or (paths_of xs) k d = same_Some _ _ (sym (path_of_at xs k (d, some_column) (omega (arith, length-paths_of xs))) ∙ slice_get-get_or (paths_of xs) k d l) in
     subst P e (h k (d, some_column) (omega (arith, length-paths_of xs)))
 
-pub shaped_of : (n : ℕ) (given xs : List (List ℕ × ColumnValue)) → n ≤ 2 ^ 22 → All (λ a. IsBelowRoot a.0) given → IsUniform n given → IsPermutation given xs → IsSortedByKey (λ a. a.0) (slice_cmp nat_cmp) xs → HasNoClash (paths_of xs) → IsShaped (vector_of n xs)
-shaped_of n given xs short named uniform same sorted apart =
+pub shaped_of : (n : ℕ) (given xs : List (List ℕ × ColumnValue)) → n ≤ 2 ^ 22 → length given < 2 ^ 32 → All (λ a. IsBelowRoot a.0) given → IsUniform n given → IsPermutation given xs → IsSortedByKey (λ a. a.0) (slice_cmp nat_cmp) xs → HasNoClash (paths_of xs) → IsShaped (vector_of n xs)
+shaped_of n given xs short few named uniform same sorted apart =
     let paths : All IsPath (paths_of xs) = All-permutation IsPath (paths_of given) (paths_of xs) (same_paths given xs same) uniform.paths in
     let chain = chain_of (paths_of xs) (rise_of_sorted xs sorted) apart in
     record {
       short = short;
+      few = omega (arith, length-paths_of xs, length_permutation given xs same);
       lengths = All-permutation (λ (a : List ℕ × ColumnValue). length a.1.slots ≡ n) given xs same uniform.lengths;
       paths = paths;
       below_root = all_paths_of IsBelowRoot xs (All-permutation (λ (a : List ℕ × ColumnValue). IsBelowRoot a.0) given xs same named);

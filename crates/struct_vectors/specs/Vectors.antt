@@ -36,6 +36,7 @@ pub record IsUniform (n : ℕ) (attributes : List (List ℕ × ColumnValue)) : T
 -- what holds of every vector
 pub record IsShaped (v : VectorValue) : Type 0 where
   pub short : v.length ≤ 2 ^ 22
+  pub few : length (paths_of v.attributes) < 2 ^ 32
   pub lengths : HaveLength v.length v.attributes
   pub paths : All IsPath (paths_of v.attributes)
   pub below_root : All IsBelowRoot (paths_of v.attributes)

@@ -22,3 +22,6 @@ pub use vectors::StructVector;
 
 /// Memory ran out: the one refusal of a call that only allocates.
 pub type NoMemory = AllocError;
+
+#[cfg(test)]
+mod tests;
