@@ -1,5 +1,5 @@
 -- A text of fixed pieces has one pair of names at most.
-use Rattle.std.proofs.Common.{◌≡◌, ℕ, ◌+◌, ◌<◌, ◌≤◌, Bool, true, false, not, cond, leb, List, [], ◌∷◌, ◌++◌, ◌&&◌, length, take, drop, Option, Some, None, refl, ap, subst, unwrap_or, sym, ◌∙◌, arith, append_assoc, length-append, ◌⊎◌, inl, inr, slice_index}
+use Rattle.std.proofs.Common.{◌≡◌, ℕ, ◌+◌, ◌<◌, ◌≤◌, Bool, true, false, cond, leb, List, [], ◌∷◌, ◌++◌, ◌&&◌, length, take, drop, Option, Some, None, refl, ap, subst, unwrap_or, sym, ◌∙◌, arith, append_assoc, length-append, ◌⊎◌, inl, inr, slice_index}
 use Rattle.std.proofs.lemmas.Bool.{and_parts, and_from, false_from_ne_true, cases_lt}
 use Rattle.std.proofs.lemmas.List.{append_cancel_left, get_or_past, take_at, drop_at, take-append-drop}
 use Rattle.std.proofs.lemmas.Slice.Eq.{bytes_eq-Decides}
@@ -8,13 +8,15 @@ use Rattle.std.specs.List.{list_all, prefix_len}
 use Rattle.std.proofs.lemmas.Bool.Decides.{nat_tests}
 use Rattle.std.proofs.lemmas.List.Sums.{AllPass-from_list_all}
 use Rattle.std.specs.Str.{bytes_eq, IsAscii}
-use Rattle.sql_read.specs.Reserved.{is_reserved}
+use Rattle.sql_read.specs.declared.kind.Kind.TheVariants.{Name}
+use Rattle.sql_read.specs.Kinds.{same_kind}
+use Rattle.sql_read.specs.Lexis.{word_kind}
 use Rattle.sql_read.specs.Thin.{is_thin_name, framed, front_word, names_in}
 use Rattle.sql_read.specs.Framed.{IsFramed}
 
 letters_of : (word : List ℕ) → is_thin_name word ≡ true → list_all is_ascii_lowercase word ≡ true
 letters_of word h =
-    let outer = and_parts (leb 1 (length word) && leb (length word) 8 && list_all is_ascii_lowercase word) (not (is_reserved word)) h in
+    let outer = and_parts (leb 1 (length word) && leb (length word) 8 && list_all is_ascii_lowercase word) (same_kind (word_kind word) Name) h in
     (and_parts (leb 1 (length word) && leb (length word) 8) (list_all is_ascii_lowercase word) outer.0).1
 
 abbrev pub letters : List ℕ → ℕ

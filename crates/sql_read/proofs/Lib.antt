@@ -1,2 +1,8 @@
+pub mod Digits
+pub mod TokenList
+pub mod GoodSchema
+pub mod Semicolons
+pub mod Sound
+pub mod SchemaLaws
 pub mod Frames
 pub mod Texts

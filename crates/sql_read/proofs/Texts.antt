@@ -1,41 +1,15 @@
--- `schema_of` and `query_of` are the names of the one schema or query that the bytes are.
+-- `query_of` is the names of the one query that the bytes are.
 use Rattle.std.proofs.Common.{◌≡◌, Option, List, ℕ, Some, None, refl, ap, arith}
 use Rattle.std.specs.Prelude.{codes}
 use Rattle.std.specs.Option.{option_map}
-use Rattle.sql_read.specs.Thin.{names_in, IsThinSchema, IsThinQuery, schema_of, query_of, swapped}
+use Rattle.sql_read.specs.Thin.{names_in, IsThinQuery, query_of, swapped}
 use Rattle.sql_read.specs.Framed.{IsFramed}
 use Rattle.sql_read.proofs.Frames.{names_in_found, names_in_is, names_in_none}
-
-abbrev pub FramesSchema : List ℕ → List ℕ → List ℕ → Type 0
-FramesSchema bytes table column = IsFramed (codes "CREATE TABLE ") (codes " (") (codes " INTEGER NOT NULL);\n") bytes table column
 
 abbrev pub FramesQuery : List ℕ → List ℕ → List ℕ → Type 0
 FramesQuery bytes column table = IsFramed (codes "SELECT SUM(") (codes ") FROM ") (codes "\n") bytes column table
 
 -- as the code finds the names: in the text's order, and copied
-pub schema_from : (bytes first second table column : List ℕ) → FramesSchema bytes first second → table ≡ first → column ≡ second → IsThinSchema bytes table column
-schema_from bytes first second table column is same_table same_column =
-    rw (same_table, same_column) (record { text = is.text; table_name = is.first_name; column_name = is.second_name })
-
-schema_is_framed : (bytes table column : List ℕ) → IsThinSchema bytes table column → FramesSchema bytes table column
-schema_is_framed bytes table column is = record { text = is.text; first_name = is.table_name; second_name = is.column_name }
-
-pub schema_of_found : (bytes table column : List ℕ) → IsThinSchema bytes table column → schema_of bytes ≡ Some (table, column)
-schema_of_found bytes table column is =
-    names_in_found (codes "CREATE TABLE ") (codes " (") (codes " INTEGER NOT NULL);\n") refl (omega arith) refl bytes table column (schema_is_framed bytes table column is)
-
-pub schema_of_is : (bytes table column : List ℕ) → schema_of bytes ≡ Some (table, column) → IsThinSchema bytes table column
-schema_of_is bytes table column h =
-    let is = names_in_is (codes "CREATE TABLE ") (codes " (") (codes " INTEGER NOT NULL);\n") bytes table column h in
-    schema_from bytes table column table column is refl refl
-
-pub no_schema_from : (bytes : List ℕ) → ((first second : List ℕ) → FramesSchema bytes first second → ⊥) → (table column : List ℕ) → IsThinSchema bytes table column → ⊥
-no_schema_from bytes none table column is = none table column (schema_is_framed bytes table column is)
-
-pub schema_of_none : (bytes : List ℕ) → ((table column : List ℕ) → IsThinSchema bytes table column → ⊥) → schema_of bytes ≡ None
-schema_of_none bytes none =
-    names_in_none (codes "CREATE TABLE ") (codes " (") (codes " INTEGER NOT NULL);\n") bytes (λ first second is. none first second (schema_from bytes first second first second is refl refl))
-
 pub query_from : (bytes first second table column : List ℕ) → FramesQuery bytes first second → table ≡ second → column ≡ first → IsThinQuery bytes table column
 query_from bytes first second table column is same_table same_column =
     rw (same_table, same_column) (record { text = is.text; table_name = is.second_name; column_name = is.first_name })

@@ -1,3 +1,9 @@
+pub mod Kinds
+pub mod Lexis
+pub mod Tokens
+pub mod Schema
+pub mod SchemaParsers
+pub mod SchemaText
 pub mod Framed
-pub mod Reserved
 pub mod Thin
+pub mod Reserved

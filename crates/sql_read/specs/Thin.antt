@@ -1,26 +1,19 @@
--- The two texts of the first SQL that is read, byte for byte: a schema of one table with one column, and the sum of that column.
-use Rattle.std.specs.Prelude.{◌≡◌, ◌+◌, ◌&&◌, Bool, IsTrue, not, ℕ, List, ◌++◌, length, drop, if◌then◌else◌, nat_le, Option, Some, None, codes}
+-- The one query that is read today, byte for byte: the sum of a column.
+use Rattle.std.specs.Prelude.{◌≡◌, ◌+◌, ◌&&◌, Bool, IsTrue, ℕ, List, ◌++◌, length, drop, if◌then◌else◌, nat_le, Option, Some, None, codes}
 use Rattle.std.specs.Char.{is_ascii_lowercase}
 use Rattle.std.specs.List.{list_all, take_while}
 use Rattle.std.specs.Option.{option_map}
 use Rattle.std.specs.Str.{bytes_eq}
-use Rattle.sql_read.specs.Reserved.{is_reserved}
+use Rattle.sql_read.specs.declared.kind.Kind.TheVariants.{Name}
+use Rattle.sql_read.specs.Kinds.{same_kind}
+use Rattle.sql_read.specs.Lexis.{word_kind}
 
 -- a name is one to eight lower-case ASCII letters, and no reserved word
 abbrev pub is_thin_name : List ℕ → Bool
-is_thin_name word = nat_le 1 (length word) && nat_le (length word) 8 && list_all is_ascii_lowercase word && not (is_reserved word)
+is_thin_name word = nat_le 1 (length word) && nat_le (length word) 8 && list_all is_ascii_lowercase word && same_kind (word_kind word) Name
 
 abbrev pub IsThinName : List ℕ → Type 0
 IsThinName word = IsTrue (is_thin_name word)
-
-abbrev pub schema_text : List ℕ → List ℕ → List ℕ
-schema_text table column = codes "CREATE TABLE " ++ table ++ codes " (" ++ column ++ codes " INTEGER NOT NULL);\n"
-
--- the bytes are the schema of this table with this one column
-pub record IsThinSchema (bytes table column : List ℕ) : Type 0 where
-  pub text : bytes ≡ schema_text table column
-  pub table_name : IsThinName table
-  pub column_name : IsThinName column
 
 abbrev pub query_text : List ℕ → List ℕ → List ℕ
 query_text table column = codes "SELECT SUM(" ++ column ++ codes ") FROM " ++ table ++ codes "\n"
@@ -49,10 +42,7 @@ names_in before between after bytes =
     then Some (first, second)
     else None
 
--- the table and the column of a schema
-abbrev pub schema_of : List ℕ → Option (List ℕ × List ℕ)
-schema_of bytes = names_in (codes "CREATE TABLE ") (codes " (") (codes " INTEGER NOT NULL);\n") bytes
-
+-- two names the other way round
 abbrev pub swapped : List ℕ × List ℕ → List ℕ × List ℕ
 swapped names = (names.1, names.0)
 

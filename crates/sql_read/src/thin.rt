@@ -1,37 +1,22 @@
-//! The two texts of the first SQL that is read: a schema of one table with one column, and the sum of a column.
+//! The one query that is read today: the sum of a column.
 //!
-//! Each is taken byte for byte: no other blank, letter case or spelling, and a line feed at its end.
+//! It is taken byte for byte: no other blank, letter case or spelling, and a line feed at its end.
 
 ghost use Rattle.std.specs.Prelude.{◌≡◌, ◌≢◌, ◌++◌, ◌≤◌, ℕ, List, IfOk, IfSome, IfNone, MatchOption, length, take, drop};
 ghost use Rattle.std.specs.Char.{is_ascii_lowercase};
 ghost use Rattle.std.specs.List.{list_all, prefix_len};
 ghost use Rattle.sql_read.specs.Thin as spec;
-ghost use Rattle.sql_read.specs.Thin.{IsThinName, IsThinQuery, IsThinSchema, query_of, schema_of};
+ghost use Rattle.sql_read.specs.Thin.{IsThinName, IsThinQuery, query_of};
 ghost use Rattle.sql_read.specs.Framed.{IsFramed};
 
-use crate::reserved::is_reserved;
+use crate::kind::{Kind, same_kind, word_kind};
 use io_edge::{Name, NoMemory};
 use std::alloc::Global;
 
-/// The names t and c of a schema `CREATE TABLE t (c INTEGER NOT NULL);` with a line feed after it.
-///
-/// A name is one to eight lower-case ASCII letters, and no reserved word. `None` says that the bytes are no such
-/// schema. The only memory taken is that of the two names. SQL-92, subclause 11.3, has the statement whole.
-pub fn thin_schema(alloc: Global, bytes: &[u8]) -> Result<Option<(Name, Name)>, NoMemory>
-    ensures value { IfOk result (λ names. names ≡ schema_of bytes.now) }
-    ensures schema { IfOk result (λ names. IfSome names (λ n. IsThinSchema bytes.now n.0 n.1)) }
-    ensures no_schema { IfOk result (λ names. IfNone names ((table column : List ℕ) → IsThinSchema bytes.now table column → ⊥)) }
-{
-    match framed_names(bytes, b"CREATE TABLE ", b" (", b" INTEGER NOT NULL);\n") {
-        Some((table, column)) => Ok(Some((name_of(alloc, table)?, name_of(alloc, column)?))),
-        None => Ok(None),
-    }
-}
-
 /// The names t and c, the table's first, of a query `SELECT SUM(c) FROM t` with a line feed after it.
 ///
-/// Names are those of [`thin_schema`]; whether a schema has them is not asked. `None` says that the bytes are no such
-/// query. The only memory taken is that of the two names. SQL-92, subclauses 7.9 and 6.5, has the query whole.
+/// A name is one to eight lower-case ASCII letters, and no reserved word; whether a schema has it is not asked. `None` says
+/// that the bytes are no such query. The only memory taken is that of the two names. SQL-92, subclauses 7.9 and 6.5, has the query whole.
 pub fn thin_query(alloc: Global, bytes: &[u8]) -> Result<Option<(Name, Name)>, NoMemory>
     ensures value { IfOk result (λ names. names ≡ query_of bytes.now) }
     ensures query { IfOk result (λ names. IfSome names (λ n. IsThinQuery bytes.now n.0 n.1)) }
@@ -47,7 +32,7 @@ pub fn thin_query(alloc: Global, bytes: &[u8]) -> Result<Option<(Name, Name)>, N
 fn is_thin_name(word: &[u8]) -> bool
     ensures { result ≡ spec.is_thin_name word.now }
 {
-    if word.is_empty() || word.len() > 8 || is_reserved(word) {
+    if word.is_empty() || word.len() > 8 || !same_kind(word_kind(word), Kind::Name) {
         return false;
     }
     is_lower_case(word)

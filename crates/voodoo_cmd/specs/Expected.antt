@@ -1,19 +1,29 @@
 -- What a run is expected to answer, from the words and the files alone: the first refusal in the order of the steps, or the text.
-use Rattle.std.specs.Prelude.{ℕ, ℤ, ◌≡◌, ◌⊎◌, ◌&&◌, Bool, false, if◌then◌else◌, List, ◌++◌, codes, Option, Some, None, Ok, Err, IsOkAnd}
+use Rattle.std.specs.Prelude.{ℕ, ℤ, ◌≡◌, ◌⊎◌, ◌&&◌, Bool, false, if◌then◌else◌, List, ◌++◌, codes, Option, Some, None, Ok, Err, IsOkAnd, Result, true, option_and_then, length, slice_get, ◌==◌}
 use Rattle.std.specs.Fmt.{signed_decimal}
 use Rattle.std.specs.Io.KnownBytes.{Appends, Keeps}
 use Rattle.std.specs.Str.{bytes_eq}
 use Rattle.io_edge.specs.Faults.{Rose}
 use Rattle.io_edge.specs.Shelves.{FileMap}
 use Rattle.io_edge.specs.Sinks.{AppendsPrefix}
-use Rattle.sql_read.specs.Thin.{schema_of, query_of}
+use Rattle.sql_read.specs.declared.definition.ColumnKind.{ColumnKind}
+use Rattle.sql_read.specs.declared.definition.ColumnKind.TheVariants as kind
+use Rattle.sql_read.specs.declared.definition.TableDef.{TableDef}
+use Rattle.sql_read.specs.declared.refusal.SqlRefusal.{SqlRefusal}
+use Rattle.sql_read.specs.declared.refusal.SqlRefusal.TheVariants as text
+use Rattle.sql_read.specs.SchemaText.{schema_of}
+use Rattle.sql_read.specs.Thin.{query_of}
+use Rattle.sql_types.specs.declared.refusal.SchemaRefusal.{SchemaRefusal}
+use Rattle.sql_types.specs.declared.refusal.SchemaRefusal.TheVariants as catalog
+use Rattle.sql_types.specs.Catalog.{catalog_of}
 use Rattle.table_load.specs.ThinTable.{table_of}
 use Rattle.voodoo_ops.specs.Slots.{total_of}
 use Rattle.voodoo_cmd.specs.declared.status.UsageKind.TheVariants as usage
 use Rattle.voodoo_cmd.specs.declared.status.FileRole.{FileRole}
 use Rattle.voodoo_cmd.specs.declared.status.FileRole.TheVariants.{Schema, Table, Text}
+use Rattle.voodoo_cmd.specs.declared.status.SchemaCause.TheVariants as cause
 use Rattle.voodoo_cmd.specs.declared.status.Status.{Status}
-use Rattle.voodoo_cmd.specs.declared.status.Status.TheVariants.{Done, Usage, ReadFault, WriteFault, NotYet, NoMemory}
+use Rattle.voodoo_cmd.specs.declared.status.Status.TheVariants.{Done, Usage, ReadFault, WriteFault, SchemaRefused, LimitReached, NotYet, NoMemory}
 use Rattle.voodoo_cmd.specs.Inputs.{file_in}
 use Rattle.voodoo_cmd.specs.Outcomes.{Outcome, or_refuse, IsReadFault, ◌>>=◌, ◌>>◌}
 use Rattle.voodoo_cmd.specs.Paths.{table_file}
@@ -25,12 +35,39 @@ use Rattle.voodoo_cmd.specs.Words.{Request, request_of}
 abbrev pub request_in : List (List ℕ) → Outcome Request
 request_in words = or_refuse (Usage usage.Words) (request_of words)
 
--- the schema's file gives the names of its table and its column
+-- the schema's file gives its definitions, or the first refusal of its text, or of its catalog
+abbrev pub text_outcome : Result (List TableDef) SqlRefusal → Outcome (List TableDef)
+text_outcome (Ok defs) = Ok defs
+text_outcome (Err text.NoMemory) = Err NoMemory
+text_outcome (Err (text.Bad at kind)) = Err (SchemaRefused at (cause.Text kind))
+
+abbrev pub catalog_outcome : Result (List TableDef) SchemaRefusal → Outcome (List TableDef)
+catalog_outcome (Ok defs) = Ok defs
+catalog_outcome (Err catalog.NoMemory) = Err NoMemory
+catalog_outcome (Err (catalog.Bad at kind)) = Err (SchemaRefused at (cause.Catalog kind))
+
+abbrev pub catalog_in : FileMap → List ℕ → Outcome (List TableDef)
+catalog_in files name = do
+  bytes ← file_in files Schema name
+  defs ← text_outcome (schema_of bytes)
+  catalog_outcome (catalog_of defs)
+
+-- the names of a table and its column, where there is one table, and it has one column of whole numbers
 abbrev pub Names : Type 0
 Names = List ℕ × List ℕ
 
+abbrev pub is_integer : ColumnKind → Bool
+is_integer kind.Integer = true
+is_integer kind = false
+
+abbrev pub one_column_of : TableDef → Option Names
+one_column_of t = option_and_then (λ c. if length t.columns == 1 && is_integer c.kind then Some (t.name, c.name) else None) (slice_get t.columns 0)
+
+abbrev pub one_column : List TableDef → Option Names
+one_column defs = if length defs == 1 then option_and_then one_column_of (slice_get defs 0) else None
+
 abbrev pub schema_in : FileMap → List ℕ → Outcome Names
-schema_in files name = file_in files Schema name >>= λ bytes. or_refuse (NotYet Schema) (schema_of bytes)
+schema_in files name = catalog_in files name >>= λ defs. or_refuse (NotYet Schema) (one_column defs)
 
 -- the table's file gives the column's numbers
 abbrev pub numbers_in : FileMap → List ℕ → List ℕ → Outcome (List ℤ)
@@ -85,6 +122,8 @@ Answers (Ok text) NoMemory old new = AppendsPrefix old new text
 Answers (Ok text) (ReadFault role) old new = Keeps old new
 Answers (Ok text) (Usage kind) old new = ⊥
 Answers (Ok text) (NotYet role) old new = ⊥
+Answers (Ok text) (SchemaRefused at kind) old new = ⊥
+Answers (Ok text) (LimitReached what number) old new = ⊥
 Answers (Err refusal) status old new = ((status ≡ refusal) ⊎ (IsReadFault status ⊎ (status ≡ NoMemory))) × Keeps old new
 
 -- the roles of a run's files: there is one table

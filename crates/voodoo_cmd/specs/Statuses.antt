@@ -1,17 +1,28 @@
 -- How a run ends: the exit status of each end, and the line that standard error gets.
-use Rattle.std.specs.Prelude.{ℕ, List, [], ◌++◌, codes}
+use Rattle.std.specs.Prelude.{ℕ, List, [], ◌∷◌, ◌++◌, codes}
 use Rattle.std.specs.Fmt.{decimal}
+use Rattle.std.specs.List.{concat}
+use Rattle.sql_read.specs.declared.refusal.SqlKind.{SqlKind}
+use Rattle.sql_read.specs.declared.refusal.SqlKind.TheVariants as sql
+use Rattle.sql_types.specs.declared.refusal.SchemaKind.{SchemaKind}
+use Rattle.sql_types.specs.declared.refusal.SchemaKind.TheVariants as catalog
 use Rattle.voodoo_cmd.specs.declared.status.UsageKind.TheVariants.{Words}
 use Rattle.voodoo_cmd.specs.declared.status.FileRole.{FileRole}
 use Rattle.voodoo_cmd.specs.declared.status.FileRole.TheVariants.{Schema, Table, Text}
+use Rattle.voodoo_cmd.specs.declared.status.SchemaCause.{SchemaCause}
+use Rattle.voodoo_cmd.specs.declared.status.SchemaCause.TheVariants as cause
+use Rattle.voodoo_cmd.specs.declared.status.LimitWhat.{LimitWhat}
+use Rattle.voodoo_cmd.specs.declared.status.LimitWhat.TheVariants as limit
 use Rattle.voodoo_cmd.specs.declared.status.Status.{Status}
-use Rattle.voodoo_cmd.specs.declared.status.Status.TheVariants.{Done, Usage, ReadFault, WriteFault, NotYet, NoMemory}
+use Rattle.voodoo_cmd.specs.declared.status.Status.TheVariants.{Done, Usage, ReadFault, WriteFault, SchemaRefused, LimitReached, NotYet, NoMemory}
 
 abbrev pub status_code : Status → ℕ
 status_code Done = 0
 status_code (Usage kind) = 2
 status_code (ReadFault role) = 3
 status_code WriteFault = 4
+status_code (SchemaRefused at kind) = 5
+status_code (LimitReached what number) = 10
 status_code NoMemory = 12
 status_code (NotYet role) = 13
 
@@ -21,8 +32,41 @@ role_name Schema = codes "schema"
 role_name (Table k) = codes "table " ++ decimal k
 role_name Text = codes "text"
 
+-- a kind is printed as its variant's name
+abbrev pub sql_kind_name : SqlKind → List ℕ
+sql_kind_name sql.NotText = codes "NotText"
+sql_kind_name sql.BadToken = codes "BadToken"
+sql_kind_name sql.NumberTooWide = codes "NumberTooWide"
+sql_kind_name sql.TooLong = codes "TooLong"
+sql_kind_name sql.Unexpected = codes "Unexpected"
+sql_kind_name sql.TooDeep = codes "TooDeep"
+sql_kind_name sql.DateRange = codes "DateRange"
+
+abbrev pub schema_kind_name : SchemaKind → List ℕ
+schema_kind_name catalog.TableTwice = codes "TableTwice"
+schema_kind_name catalog.ColumnTwice = codes "ColumnTwice"
+schema_kind_name catalog.TwoKeys = codes "TwoKeys"
+schema_kind_name catalog.KeyUnknown = codes "KeyUnknown"
+schema_kind_name catalog.BadWidth = codes "BadWidth"
+schema_kind_name catalog.TooManyTables = codes "TooManyTables"
+schema_kind_name catalog.TooManyColumns = codes "TooManyColumns"
+schema_kind_name catalog.NoNotNull = codes "NoNotNull"
+
+abbrev pub schema_cause_name : SchemaCause → List ℕ
+schema_cause_name (cause.Text kind) = sql_kind_name kind
+schema_cause_name (cause.Catalog kind) = schema_kind_name kind
+
 abbrev pub line_end : List ℕ
 line_end = codes "\n"
+
+abbrev pub schema_line : ℕ → SchemaCause → List ℕ
+schema_line at kind = concat (codes "voodoo: schema: byte " ∷ decimal at ∷ codes ": " ∷ schema_cause_name kind ∷ line_end ∷ [])
+
+abbrev pub file_limit_line : FileRole → ℕ → List ℕ
+file_limit_line role number = concat (codes "voodoo: limit: " ∷ role_name role ∷ codes ": " ∷ decimal number ∷ line_end ∷ [])
+
+abbrev pub limit_line : LimitWhat → ℕ → List ℕ
+limit_line (limit.File role) number = file_limit_line role number
 
 -- the line of a status: none where the run is done
 abbrev pub status_line : Status → List ℕ
@@ -30,5 +74,7 @@ status_line Done = []
 status_line (Usage Words) = codes "voodoo: usage: Words\n"
 status_line (ReadFault role) = codes "voodoo: cannot read " ++ role_name role ++ line_end
 status_line WriteFault = codes "voodoo: cannot write\n"
+status_line (SchemaRefused at kind) = schema_line at kind
+status_line (LimitReached what number) = limit_line what number
 status_line (NotYet role) = codes "voodoo: not yet: " ++ role_name role ++ line_end
 status_line NoMemory = codes "voodoo: out of memory\n"

@@ -1,10 +1,11 @@
 //! A run's files, each read in its role.
 
 ghost use Rattle.std.specs.Prelude.{◌≡◌, ◌≤◌, IfErr, IfOk, IfSome, vec_len};
+ghost use Rattle.voodoo_cmd.specs.Inputs as spec;
 ghost use Rattle.voodoo_cmd.specs.Inputs.{file_in, file_limit, HasFileCause};
 ghost use Rattle.voodoo_cmd.specs.Outcomes.{Meets};
 
-use crate::status::{FileRole, Status};
+use crate::status::{FileRole, LimitWhat, Status};
 use io_edge::{ReadRefusal, Shelf, read_all};
 use std::alloc::Global;
 
@@ -27,7 +28,20 @@ pub(crate) fn read_file<S: Shelf>(
     match read_all(alloc, shelf, name, FILE_LIMIT) {
         Ok(bytes) => Ok(bytes),
         Err(ReadRefusal::ReadFault) => Err(Status::ReadFault(role)),
-        Err(ReadRefusal::TooLong) => Err(Status::NotYet(role)),
+        Err(ReadRefusal::TooLong) => Err(past_limit(role)),
         Err(ReadRefusal::NoMemory) => Err(Status::NoMemory),
+    }
+}
+
+/// How a run ends where the file of that role is too long.
+fn past_limit(role: FileRole) -> Status
+    ensures { result ≡ spec.past_limit role }
+{
+    match role {
+        FileRole::Schema => Status::LimitReached {
+            what: LimitWhat::File(role),
+            number: 65537,
+        },
+        FileRole::Table(_) | FileRole::Text => Status::NotYet(role),
     }
 }

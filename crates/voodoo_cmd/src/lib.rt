@@ -10,7 +10,7 @@ mod sum;
 mod top;
 mod words;
 
-pub use status::{FileRole, Status, UsageKind};
+pub use status::{FileRole, LimitWhat, SchemaCause, Status, UsageKind};
 pub use top::run;
 
 #[cfg(test)]

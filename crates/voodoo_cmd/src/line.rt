@@ -1,14 +1,16 @@
 //! The line that standard error gets at the end of a run, written without taking memory.
 
-ghost use Rattle.std.specs.Prelude.{◌++◌, OnOk, OnErr};
+ghost use Rattle.std.specs.Prelude.{◌≡◌, ◌++◌, OnOk, OnErr};
 ghost use Rattle.std.specs.Io.KnownBytes.{Appends};
 ghost use Rattle.io_edge.specs.Faults.{HasCause};
 ghost use Rattle.io_edge.specs.Sinks.{AppendsPrefix};
-ghost use Rattle.voodoo_cmd.specs.Statuses.{status_line, role_name, line_end};
+ghost use Rattle.voodoo_cmd.specs.Statuses.{status_line, role_name, schema_line, file_limit_line, line_end, schema_cause_name, schema_kind_name, sql_kind_name};
 
-use crate::status::{FileRole, Status, UsageKind};
+use crate::status::{FileRole, LimitWhat, SchemaCause, Status, UsageKind};
 use io_edge::{Failed, Sink, write_all, write_pieces};
 use itoa::Buffer;
+use sql_read::SqlKind;
+use sql_types::SchemaKind;
 
 /// Writes the line of a status, and nothing for `Done`. Where it fails, a prefix of the line was
 /// written.
@@ -22,6 +24,11 @@ pub(crate) fn write_line<E: Sink>(err: &mut E, status: &Status) -> Result<(), Fa
         Status::Usage(UsageKind::Words) => write_all(err, b"voodoo: usage: Words\n"),
         Status::ReadFault(role) => write_role_line(err, b"voodoo: cannot read ", role),
         Status::WriteFault => write_all(err, b"voodoo: cannot write\n"),
+        Status::SchemaRefused { at, kind } => write_schema_line(err, *at, kind),
+        Status::LimitReached {
+            what: LimitWhat::File(role),
+            number,
+        } => write_limit_line(err, role, *number),
         Status::NotYet(role) => write_role_line(err, b"voodoo: not yet: ", role),
         Status::NoMemory => write_all(err, b"voodoo: out of memory\n"),
     }
@@ -41,5 +48,81 @@ fn write_role_line<E: Sink>(err: &mut E, start: &[u8], role: &FileRole) -> Resul
             write_pieces(err, &[start, b"table ", number, b"\n"])
         }
         FileRole::Text => write_pieces(err, &[start, b"text", b"\n"]),
+    }
+}
+
+/// Writes the line of a schema that is refused at a byte.
+fn write_schema_line<E: Sink>(err: &mut E, at: u32, kind: &SchemaCause) -> Result<(), Failed>
+    ensures whole { OnOk result (Appends (E.written err.old) (E.written err.new) (schema_line at kind.now)) }
+    ensures prefix { OnErr result (AppendsPrefix (E.written err.old) (E.written err.new) (schema_line at kind.now)) }
+    ensures cause { HasCause (E.faults err.old) (E.faults err.new) result }
+{
+    let mut digits = Buffer::new();
+    let byte = digits.format(at).as_bytes();
+    let name = schema_cause_name(kind).as_bytes();
+    write_pieces(err, &[b"voodoo: schema: byte ", byte, b": ", name, b"\n"])
+}
+
+/// Writes the line of a file that is longer than its limit.
+fn write_limit_line<E: Sink>(err: &mut E, role: &FileRole, number: u64) -> Result<(), Failed>
+    ensures whole { OnOk result (Appends (E.written err.old) (E.written err.new) (file_limit_line role.now number)) }
+    ensures prefix { OnErr result (AppendsPrefix (E.written err.old) (E.written err.new) (file_limit_line role.now number)) }
+    ensures cause { HasCause (E.faults err.old) (E.faults err.new) result }
+{
+    let mut digits = Buffer::new();
+    let count = digits.format(number).as_bytes();
+    match role {
+        FileRole::Schema => write_pieces(
+            err,
+            &[b"voodoo: limit: ", b"schema", b": ", count, b"\n"],
+        ),
+        FileRole::Table(k) => {
+            let mut table_digits = Buffer::new();
+            let table = table_digits.format(*k).as_bytes();
+            write_pieces(
+                err,
+                &[b"voodoo: limit: ", b"table ", table, b": ", count, b"\n"],
+            )
+        }
+        FileRole::Text => write_pieces(err, &[b"voodoo: limit: ", b"text", b": ", count, b"\n"]),
+    }
+}
+
+/// The name of a cause, as it is printed.
+fn schema_cause_name(cause: &SchemaCause) -> &'static str
+    ensures { result.now ≡ schema_cause_name cause.now }
+{
+    match cause {
+        SchemaCause::Text(kind) => sql_kind_name(*kind),
+        SchemaCause::Catalog(kind) => schema_kind_name(*kind),
+    }
+}
+
+fn sql_kind_name(kind: SqlKind) -> &'static str
+    ensures { result.now ≡ sql_kind_name kind }
+{
+    match kind {
+        SqlKind::NotText => "NotText",
+        SqlKind::BadToken => "BadToken",
+        SqlKind::NumberTooWide => "NumberTooWide",
+        SqlKind::TooLong => "TooLong",
+        SqlKind::Unexpected => "Unexpected",
+        SqlKind::TooDeep => "TooDeep",
+        SqlKind::DateRange => "DateRange",
+    }
+}
+
+fn schema_kind_name(kind: SchemaKind) -> &'static str
+    ensures { result.now ≡ schema_kind_name kind }
+{
+    match kind {
+        SchemaKind::TableTwice => "TableTwice",
+        SchemaKind::ColumnTwice => "ColumnTwice",
+        SchemaKind::TwoKeys => "TwoKeys",
+        SchemaKind::KeyUnknown => "KeyUnknown",
+        SchemaKind::BadWidth => "BadWidth",
+        SchemaKind::TooManyTables => "TooManyTables",
+        SchemaKind::TooManyColumns => "TooManyColumns",
+        SchemaKind::NoNotNull => "NoNotNull",
     }
 }

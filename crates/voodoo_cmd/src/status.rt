@@ -3,6 +3,8 @@
 ghost use Rattle.std.specs.Prelude.{◌≡◌};
 ghost use Rattle.voodoo_cmd.specs.Statuses.{status_code};
 
+use sql_read::SqlKind;
+use sql_types::SchemaKind;
 use std::alloc::AllocError;
 
 /// What is wrong with the words of the command line.
@@ -22,6 +24,20 @@ pub enum FileRole {
     Text,
 }
 
+/// Why a schema is refused: by its text, or by its catalog.
+#[derive(Clone, Copy, Debug, PartialEq, Eq)]
+pub enum SchemaCause {
+    Text(SqlKind),
+    Catalog(SchemaKind),
+}
+
+/// What a limit is on.
+#[derive(Clone, Copy, Debug, PartialEq, Eq)]
+pub enum LimitWhat {
+    /// A file's bytes.
+    File(FileRole),
+}
+
 /// How a run ended. Each status has an exit status and, but for `Done`, one line on standard error.
 #[derive(Clone, Copy, Debug, PartialEq, Eq)]
 pub enum Status {
@@ -33,6 +49,10 @@ pub enum Status {
     ReadFault(FileRole),
     /// Writing failed. What was written is a prefix of the answer.
     WriteFault,
+    /// The schema is refused at a byte of its text, counted from 0.
+    SchemaRefused { at: u32, kind: SchemaCause },
+    /// A limit is passed. The number is the limit plus one.
+    LimitReached { what: LimitWhat, number: u64 },
     /// That file is longer, or of another form, than what is understood today.
     NotYet(FileRole),
     /// Memory was refused.
@@ -49,6 +69,8 @@ impl Status {
             Status::Usage(_) => 2,
             Status::ReadFault(_) => 3,
             Status::WriteFault => 4,
+            Status::SchemaRefused { .. } => 5,
+            Status::LimitReached { .. } => 10,
             Status::NoMemory => 12,
             Status::NotYet(_) => 13,
         }

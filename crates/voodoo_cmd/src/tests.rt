@@ -77,9 +77,9 @@ fn ones(alloc: Global, zeros: usize, rows: usize) -> Result<String, AllocError> 
     Ok(text)
 }
 
-/// The query, and blanks up to so many bytes.
-fn long_query(alloc: Global, len: usize) -> Result<String, AllocError> {
-    let mut text = String::from_str(alloc, QUERY)?;
+/// A text, and blanks up to so many bytes.
+fn blanks_after(alloc: Global, start: &str, len: usize) -> Result<String, AllocError> {
+    let mut text = String::from_str(alloc, start)?;
     for _ in text.len()..len {
         text.push_str(" ")?;
     }
@@ -111,18 +111,11 @@ fn the_first_refusal_is_the_answer(rt: HostRuntime) -> Result<(), Fail> {
     let alloc = rt.alloc();
     let one = "a\n1\n";
     let too_long = ones(alloc, 1, 32767)?;
-    let blanks = long_query(alloc, 65537)?;
+    let blanks = blanks_after(alloc, QUERY, 65537)?;
     for (schema, table, query, code, line) in [
         ("", one, QUERY, 3, "voodoo: cannot read schema\n"),
         (SCHEMA, "", QUERY, 3, "voodoo: cannot read table 1\n"),
         (SCHEMA, one, "", 3, "voodoo: cannot read text\n"),
-        (
-            "CREATE TABLE t (a INTEGER);\n",
-            "",
-            "",
-            13,
-            "voodoo: not yet: schema\n",
-        ),
         (
             SCHEMA,
             too_long.as_str(),
@@ -152,6 +145,50 @@ fn the_first_refusal_is_the_answer(rt: HostRuntime) -> Result<(), Fail> {
             gives(alloc, WORDS, files, code, "", line)?,
             "{line} {query}"
         );
+    }
+    Ok(())
+}
+
+#[test]
+fn schemas_are_read_whole(rt: HostRuntime) -> Result<(), Fail> {
+    let alloc = rt.alloc();
+    let blanks = blanks_after(alloc, SCHEMA, 65537)?;
+    for (schema, code, text, line) in [
+        ("create table T -- t\n(A int primary key)", 0, "c1\n6\n", ""),
+        (
+            "CREATE TABLE t (a INTEGER);\n",
+            5,
+            "",
+            "voodoo: schema: byte 16: NoNotNull\n",
+        ),
+        (
+            "CREATE TABLE select (a INT)",
+            5,
+            "",
+            "voodoo: schema: byte 13: Unexpected\n",
+        ),
+        (
+            "CREATE TABLE t (a INTEGER",
+            5,
+            "",
+            "voodoo: schema: byte 25: Unexpected\n",
+        ),
+        (blanks.as_str(), 10, "", "voodoo: limit: schema: 65537\n"),
+        (
+            "CREATE TABLE t (a DATE NOT NULL)",
+            13,
+            "",
+            "voodoo: not yet: schema\n",
+        ),
+        (
+            "CREATE TABLE t (a INT NOT NULL, b INT NOT NULL)",
+            13,
+            "",
+            "voodoo: not yet: schema\n",
+        ),
+    ] {
+        let files = shelf_files(alloc, schema, "a\n1\n2\n3\n", QUERY)?;
+        assert!(rt; gives(alloc, WORDS, files, code, text, line)?, "{schema}");
     }
     Ok(())
 }

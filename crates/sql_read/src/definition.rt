@@ -1,0 +1,55 @@
+//! The definitions of a schema, as they are written.
+
+use crate::listing::Listing;
+use io_edge::Name;
+
+/// The kind of a column's values. `CHAR` and `VARCHAR` are one kind.
+#[derive(Clone, Copy, Debug, PartialEq, Eq)]
+pub enum ColumnKind {
+    /// `INTEGER`, `INT` or `BIGINT`.
+    Integer,
+    /// `DATE`.
+    Date,
+    /// `CHAR` or `VARCHAR`.
+    Text,
+}
+
+/// A column as it is written. Places are bytes of the text, counted from 0.
+#[derive(Debug, Drop)]
+pub struct ColumnDef {
+    /// The name, folded to lower case.
+    pub name: Name,
+    /// The name's first byte.
+    pub at: u32,
+    pub kind: ColumnKind,
+    /// The width of a text in bytes, 2^32 - 1 for every greater number; 1 for a bare `CHAR`, 0 for what is no text.
+    pub width: u32,
+    /// The width's first byte; that of the type's word where no width is written.
+    pub width_at: u32,
+    /// Whether `NOT NULL` is written.
+    pub not_null: bool,
+}
+
+/// A `PRIMARY KEY`, behind its column or as a part of its own.
+#[derive(Debug, Drop)]
+pub struct KeyDef {
+    /// The name of the column, folded to lower case.
+    pub column: Name,
+    /// The first byte of `PRIMARY`.
+    pub at: u32,
+    /// The first byte of that name.
+    pub name_at: u32,
+}
+
+/// A `CREATE TABLE` as it is written.
+#[derive(Debug, Drop)]
+pub struct TableDef {
+    /// The name, folded to lower case.
+    pub name: Name,
+    /// The name's first byte.
+    pub at: u32,
+    /// The columns, in order.
+    pub columns: Listing<ColumnDef>,
+    /// The keys, in order.
+    pub keys: Listing<KeyDef>,
+}

@@ -1,0 +1,36 @@
+//! One token at a time.
+
+ghost use Rattle.std.specs.Prelude.{◌≡◌, length, Some, None};
+ghost use Rattle.phrases.specs.Parsers.{Reads, next, head};
+ghost use Rattle.phrases.specs.Parsers as parsers;
+ghost use Rattle.sql_read.specs.SchemaParsers as spec;
+ghost use Rattle.sql_read.specs.Schema as grammar;
+
+use crate::fault::Fault;
+use crate::kind::{Kind, same_kind};
+use crate::token_list::Token;
+use phrases::{Cursor, ReadError};
+
+/// Whether the next token is of the kind.
+pub fn is_next(tokens: &Cursor<'_, Token>, kind: Kind) -> bool
+    ensures { result ≡ next (grammar.is kind) tokens.now }
+{
+    match tokens.first() {
+        None => false,
+        Some(t) => same_kind(t.kind, kind),
+    }
+}
+
+/// The next token, which is of the kind.
+#[tactic(auto, unfolding(phrases::specs::Parsers::expect))]
+pub fn expect(tokens: &mut Cursor<'_, Token>, kind: Kind) -> Result<Token, ReadError<Fault>>
+    ensures { Reads (spec.expect kind tokens.old) result tokens.new }
+{
+    match tokens.first() {
+        Some(t) if same_kind(t.kind, kind) => {
+            let _taken = tokens.take();
+            Ok(t)
+        }
+        _ => Err(ReadError::Refused(Fault::Unexpected, tokens.left())),
+    }
+}

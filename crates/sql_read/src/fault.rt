@@ -1,0 +1,8 @@
+//! Why a token is refused by the grammar.
+
+/// What is wrong with the refused token.
+#[derive(Clone, Copy, Debug, PartialEq, Eq)]
+pub enum Fault {
+    /// It cannot stand there.
+    Unexpected,
+}

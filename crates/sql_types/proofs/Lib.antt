@@ -1,0 +1,2 @@
+pub mod FindingFolds
+pub mod FirstFindings
