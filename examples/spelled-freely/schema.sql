@@ -1,0 +1,3 @@
+create table Orders ( -- one row an order
+  Total bigint primary key
+);
