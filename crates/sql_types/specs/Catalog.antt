@@ -54,9 +54,12 @@ two_keys t = map (λ k. found TwoKeys k.at) (take 1 (drop 1 t.keys))
 abbrev pub is_unknown : TableDef → KeyDef → Bool
 is_unknown t k = not (list_any (is_column_named k.column) t.columns)
 
+abbrev pub key_unknown : KeyDef → Finding
+key_unknown k = found KeyUnknown k.name_at
+
 -- KeyUnknown: a key's name that is no column
 abbrev pub keys_unknown : TableDef → List Finding
-keys_unknown t = map (λ k. found KeyUnknown k.name_at) (filter (is_unknown t) t.keys)
+keys_unknown t = map key_unknown (filter (is_unknown t) t.keys)
 
 abbrev pub is_text : ColumnKind → Bool
 is_text kind.Text = true
@@ -82,17 +85,20 @@ too_many_columns t = map (λ c. found TooManyColumns c.at) (take 1 (drop 64 t.co
 abbrev pub may_be_null : TableDef → ColumnDef → Bool
 may_be_null t c = not c.not_null && not (list_any (is_key_of c.name) t.keys)
 
+abbrev pub no_not_null : ColumnDef → Finding
+no_not_null c = found NoNotNull c.at
+
 -- NoNotNull: the name of a column that has neither NOT NULL nor a key
 abbrev pub no_not_nulls : TableDef → List Finding
-no_not_nulls t = map (λ c. found NoNotNull c.at) (filter (may_be_null t) t.columns)
+no_not_nulls t = map no_not_null (filter (may_be_null t) t.columns)
 
 -- what is wrong within a table
 unfoldable pub table_findings : TableDef → List Finding
-table_findings t = columns_twice t ++ (two_keys t ++ (keys_unknown t ++ (bad_widths t ++ (too_many_columns t ++ no_not_nulls t))))
+table_findings t = too_many_columns t ++ (columns_twice t ++ (two_keys t ++ (keys_unknown t ++ (bad_widths t ++ no_not_nulls t))))
 
 -- all that is wrong
 unfoldable pub findings : List TableDef → List Finding
-findings defs = tables_twice defs ++ (too_many_tables defs ++ flat_map table_findings defs)
+findings defs = too_many_tables defs ++ (tables_twice defs ++ flat_map table_findings defs)
 
 abbrev pub decided : List TableDef → Option Finding → Result (List TableDef) SchemaRefusal
 decided defs None = Ok defs

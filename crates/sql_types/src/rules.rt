@@ -83,14 +83,24 @@ pub fn two_keys(first: Option<Finding>, t: &TableDef) -> Option<Finding>
     }
 }
 
+fn with_key(first: Option<Finding>, t: &TableDef, k: &KeyDef) -> Option<Finding>
+    ensures { result ≡ noted (spec.is_unknown t.now) spec.key_unknown first k.now }
+{
+    let q = found(SchemaKind::KeyUnknown, k.name_at);
+    if improves(first, q) && !has_column(t.columns.as_slice(), k.column.text()) {
+        Some(q)
+    } else {
+        first
+    }
+}
+
 /// A key whose name is no column.
 pub fn keys_unknown(first: Option<Finding>, t: &TableDef) -> Option<Finding>
     ensures { result ≡ first_from first (spec.keys_unknown t.now) }
 {
     let mut best = first;
     for k in t.keys.as_slice() {
-        let q = found(SchemaKind::KeyUnknown, k.name_at);
-        best = earlier_if(best, q, !has_column(t.columns.as_slice(), k.column.text()));
+        best = with_key(best, t, k);
     }
     best
 }
@@ -139,14 +149,24 @@ fn may_be_null(t: &TableDef, c: &ColumnDef) -> bool
     !c.not_null && !has_key(t.keys.as_slice(), c.name.text())
 }
 
+fn with_null(first: Option<Finding>, t: &TableDef, c: &ColumnDef) -> Option<Finding>
+    ensures { result ≡ noted (spec.may_be_null t.now) spec.no_not_null first c.now }
+{
+    let q = found(SchemaKind::NoNotNull, c.at);
+    if improves(first, q) && may_be_null(t, c) {
+        Some(q)
+    } else {
+        first
+    }
+}
+
 /// A column with neither NOT NULL nor a key.
 pub fn no_not_nulls(first: Option<Finding>, t: &TableDef) -> Option<Finding>
     ensures { result ≡ first_from first (spec.no_not_nulls t.now) }
 {
     let mut best = first;
     for c in t.columns.as_slice() {
-        let q = found(SchemaKind::NoNotNull, c.at);
-        best = earlier_if(best, q, may_be_null(t, c));
+        best = with_null(best, t, c);
     }
     best
 }

@@ -5,4 +5,4 @@ use Rattle.sql_types.specs.Catalog.{tables_twice, too_many_tables, table_finding
 use Rattle.sql_types.proofs.catalog_of_schema.first_wrong.Given as goal
 
 abbrev pub invariant-loop-t : goal.invariant-loop-t
-invariant-loop-t l = l.first ≡ first_from None (tables_twice l.defs ++ (too_many_tables l.defs ++ flat_map table_findings (take l.t-index l.defs)))
+invariant-loop-t l = l.first ≡ first_from None (too_many_tables l.defs ++ (tables_twice l.defs ++ flat_map table_findings (take l.t-index l.defs)))
