@@ -1,0 +1,4 @@
+pub mod Members
+pub mod AscendingLaws
+pub mod DictionaryLaws
+pub mod DistinctLaws

@@ -1,0 +1,31 @@
+-- Dictionaries: the distinct texts of a list, ascending by bytes. The code of a text is the number of texts below it.
+-- As the Voodoo paper (PVLDB 9(14), 2016, section 4) keeps a column of texts as positions in an ordered dictionary.
+use Rattle.std.specs.Prelude.{◌≡◌, ℕ, Bool, true, List}
+use Rattle.std.specs.List.{AllPairs, count_by, list_any}
+use Rattle.std.specs.Str.{bytes_eq}
+use Rattle.std.specs.declared.cmp.Ordering.{Ordering}
+use Rattle.std.specs.Ordering.{is_lt, nat_cmp}
+use Rattle.std.specs.Cmp.Lexicographic.{slice_cmp}
+use Rattle.dict_codes.specs.Ascending.{ascending}
+
+-- the order of texts by their bytes
+abbrev pub by_bytes : List ℕ → List ℕ → Ordering
+by_bytes = slice_cmp nat_cmp
+
+abbrev pub is_below : List ℕ → List ℕ → Bool
+is_below a b = is_lt (by_bytes a b)
+
+-- each text is below those behind it
+abbrev pub IsAscending : List (List ℕ) → Type 0
+IsAscending texts = AllPairs (λ a b. is_below a b ≡ true) texts
+
+-- the distinct texts, ascending
+abbrev pub dictionary_of : List (List ℕ) → List (List ℕ)
+dictionary_of texts = ascending by_bytes texts
+
+-- how many texts of a dictionary are below a text: where it is one of them, its code
+abbrev pub rank_in : List (List ℕ) → List ℕ → ℕ
+rank_in texts text = count_by (λ t. is_below t text) texts
+
+abbrev pub is_among : List (List ℕ) → List ℕ → Bool
+is_among texts text = list_any (bytes_eq text) texts
