@@ -2,3 +2,12 @@ pub mod Digits
 pub mod Numbers
 pub mod Rows
 pub mod Tables
+pub mod Left
+pub mod DateFacts
+pub mod Rowwise
+pub mod RecordLaws
+pub mod KeyLaws
+pub mod FieldLaws
+pub mod TextLaws
+pub mod ColumnLaws
+pub mod LoadLaws

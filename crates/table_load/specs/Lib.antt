@@ -1,2 +1,10 @@
 pub mod ThinRows
 pub mod ThinTable
+pub mod Records
+pub mod Fields
+pub mod Values
+pub mod Tables
+pub mod Databases
+pub mod Held
+pub mod Reading
+pub mod Columns

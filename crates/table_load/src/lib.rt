@@ -1,9 +1,26 @@
 //! Tables from the bytes of their files.
 #![tactic(auto)]
 
+mod columns;
+mod dates;
+mod fields;
+mod header;
+mod integers;
+mod keys;
+mod loading;
+mod raw;
+mod reading;
+mod records;
+mod refusal;
+mod texts;
 mod thin;
 
+pub use loading::load;
+pub use raw::RawTable;
+pub use refusal::{DataKind, DataRefusal};
 pub use thin::thin_table;
 
 #[cfg(test)]
 mod tests;
+#[cfg(test)]
+mod thin_tests;

@@ -1,0 +1,91 @@
+-- How a table is held: its columns as whole numbers, with a list of its distinct texts, of which a cell of a column of texts has the place.
+use Rattle.std.specs.Prelude.{◌≡◌, ℕ, zero, suc, ◌+◌, ◌<◌, ◌≤◌, ◌^◌, ℤ, pos, negsuc, Bool, true, false, List, [], ◌∷◌, ◌++◌, length, map, fold, if◌then◌else◌, slice_index_or, ⊤}
+use Rattle.std.specs.List.{All, list_any}
+use Rattle.std.specs.Str.{bytes_eq}
+use Rattle.sql_read.specs.declared.definition.ColumnDef.{ColumnDef}
+use Rattle.sql_types.specs.Catalog.{is_text}
+use Rattle.table_load.specs.Values.{Value, Table, number, text}
+use Rattle.table_load.specs.Databases.{rows_texts}
+
+-- ---- texts, each once, in the order of their first places
+
+abbrev pub note : List (List ℕ) → List ℕ → List (List ℕ)
+note texts t = if list_any (bytes_eq t) texts then texts else texts ++ t ∷ []
+
+unfoldable pub noted : List (List ℕ) → List (List ℕ) → List (List ℕ)
+noted texts more = fold note texts more
+
+-- ---- cells
+
+-- the place that a cell of a column of texts names
+abbrev pub code_of : ℤ → ℕ
+code_of (pos n) = n
+code_of (negsuc n) = 0
+
+-- the value of a cell in a column of texts, or of numbers
+abbrev pub value_of : List (List ℕ) → Bool → ℤ → Value
+value_of texts true z = text (slice_index_or texts (code_of z) [])
+value_of texts false z = number z
+
+abbrev pub IsCode : ℕ → ℤ → Type 0
+IsCode count (pos n) = n < count
+IsCode count (negsuc n) = ⊥
+
+-- a cell of a column of texts names one of so many
+abbrev pub IsCell : ℕ → Bool → ℤ → Type 0
+IsCell count true z = IsCode count z
+IsCell count false z = ⊤
+
+-- the values of the first cells of a row
+abbrev pub values_of : List (List ℕ) → List Bool → List ℤ → List Value
+values_of texts [] cells = []
+values_of texts (k ∷ ks) [] = []
+values_of texts (k ∷ ks) (z ∷ zs) = value_of texts k z ∷ values_of texts ks zs
+
+abbrev pub AreCells : ℕ → List Bool → List ℤ → Type 0
+AreCells count ks [] = ⊤
+AreCells count [] (z ∷ zs) = ⊥
+AreCells count (k ∷ ks) (z ∷ zs) = IsCell count k z × AreCells count ks zs
+
+-- which columns are of texts
+abbrev pub is_text_column : ColumnDef → Bool
+is_text_column c = is_text c.kind
+
+abbrev pub text_columns : List ColumnDef → List Bool
+text_columns columns = map is_text_column columns
+
+-- ---- columns
+
+-- a row more: a cell at the end of each column
+abbrev pub with_cells : List (List ℤ) → List ℤ → List (List ℤ)
+with_cells [] cells = []
+with_cells (c ∷ cs) [] = c ∷ cs
+with_cells (c ∷ cs) (z ∷ zs) = (c ++ z ∷ []) ∷ with_cells cs zs
+
+-- the cells of a row
+abbrev pub cells_at : ℕ → List (List ℤ) → List ℤ
+cells_at i columns = map (λ c. slice_index_or c i (pos 0)) columns
+
+abbrev pub row_at : List (List ℕ) → List Bool → List (List ℤ) → ℕ → List Value
+row_at texts ks columns i = values_of texts ks (cells_at i columns)
+
+-- the first rows, by a row's place
+unfoldable pub rows_to : (ℕ → List Value) → ℕ → List (List Value)
+rows_to row zero = []
+rows_to row (suc n) = rows_to row n ++ row n ∷ []
+
+abbrev pub rows_held : List (List ℕ) → List Bool → List (List ℤ) → ℕ → List (List Value)
+rows_held texts ks columns n = rows_to (row_at texts ks columns) n
+
+-- each column has n cells
+abbrev pub AreColumns : ℕ → ℕ → List Bool → List (List ℤ) → Type 0
+AreColumns count n [] [] = ⊤
+AreColumns count n [] (c ∷ cs) = ⊥
+AreColumns count n (k ∷ ks) [] = ⊥
+AreColumns count n (k ∷ ks) (c ∷ cs) = (length c ≡ n) × All (IsCell count k) c × AreColumns count n ks cs
+
+-- what holds of every table: the columns are whole, and the texts are those of the rows
+pub record IsHeld (texts : List (List ℕ)) (ks : List Bool) (columns : List (List ℤ)) (n : ℕ) : Type 0 where
+  pub columns_whole : AreColumns (length texts) n ks columns
+  pub few : n ≤ 2 ^ 20
+  pub texts_are : texts ≡ noted [] (rows_texts (rows_held texts ks columns n))
