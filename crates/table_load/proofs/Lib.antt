@@ -11,3 +11,7 @@ pub mod FieldLaws
 pub mod TextLaws
 pub mod ColumnLaws
 pub mod LoadLaws
+pub mod DictionaryFacts
+pub mod VectorFacts
+pub mod StoreFacts
+pub mod Limits

@@ -8,3 +8,4 @@ pub mod Databases
 pub mod Held
 pub mod Reading
 pub mod Columns
+pub mod Vectors

@@ -2,7 +2,10 @@
 #![tactic(auto)]
 
 mod columns;
+mod copies;
+mod database;
 mod dates;
+mod dictionaries;
 mod fields;
 mod header;
 mod integers;
@@ -14,12 +17,16 @@ mod records;
 mod refusal;
 mod texts;
 mod thin;
+mod vectors;
 
+pub use database::{Database, finish};
 pub use loading::load;
 pub use raw::RawTable;
 pub use refusal::{DataKind, DataRefusal};
 pub use thin::thin_table;
 
+#[cfg(test)]
+mod finish_tests;
 #[cfg(test)]
 mod tests;
 #[cfg(test)]

@@ -1,0 +1,29 @@
+-- What a catalog says of each of its tables.
+use Rattle.std.proofs.Common.{◌≡◌, ◌∙◌, ℕ, zero, suc, ◌+◌, ◌<◌, ◌≤◌, List, [], ◌∷◌, ◌++◌, length, take, drop, map, flat_map, get_or, refl, sym, ap, inl, inr, ◌⊎◌, arith}
+use Rattle.std.proofs.lemmas.Bool.{cases_lt}
+use Rattle.std.proofs.lemmas.List.{drop_more, length-drop, length-map}
+use Rattle.sql_read.specs.declared.definition.TableDef.{TableDef}
+use Rattle.sql_types.specs.Catalog.{findings, table_findings, tables_twice, too_many_columns, too_many_tables}
+
+both_empty : {X : Type 0} (a b : List X) → a ++ b ≡ [] → (a ≡ []) × (b ≡ [])
+both_empty [] b e = (refl, e)
+both_empty (x ∷ a) b e = absurd (cc)
+
+one_empty : {X Y : Type 0} (f : X → List Y) (xs : List X) (i : ℕ) (d : X) → flat_map f xs ≡ [] → i < length xs → f (get_or xs i d) ≡ []
+one_empty f [] i d e h = absurd (omega arith)
+one_empty f (x ∷ xs) zero d e h = (both_empty (f x) (flat_map f xs) e).0
+one_empty f (x ∷ xs) (suc i) d e h = one_empty f xs i d (both_empty (f x) (flat_map f xs) e).1 (omega arith)
+
+one_at_least : {X Y : Type 0} (f : X → Y) (xs : List X) → map f (take 1 xs) ≡ [] → length xs ≡ 0
+one_at_least f [] e = refl
+one_at_least f (x ∷ xs) e = absurd (cc)
+
+few_of : (t : TableDef) → too_many_columns t ≡ [] → length t.columns ≤ 64
+few_of t e = omega (arith, one_at_least _ (drop 64 t.columns) e, length-drop 64 t.columns)
+
+-- each table of a catalog has at most 64 columns
+pub few_columns : (defs : List TableDef) (i : ℕ) (d : TableDef) → findings defs ≡ [] → i < length defs → length (get_or defs i d).columns ≤ 64
+unfolding findings table_findings
+few_columns defs i d e h =
+    let all = (both_empty (tables_twice defs) (flat_map table_findings defs) (both_empty (too_many_tables defs) _ e).1).1 in
+    few_of (get_or defs i d) (both_empty (too_many_columns (get_or defs i d)) _ (one_empty table_findings defs i d all h)).0

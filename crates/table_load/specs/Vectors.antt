@@ -1,0 +1,24 @@
+-- The attributes of a table as it is held, with its texts as codes.
+use Rattle.std.specs.Prelude.{ℕ, ℤ, pos, Bool, true, false, List, [], ◌∷◌, map, slice_index_or}
+use Rattle.sql_read.specs.declared.definition.ColumnDef.{ColumnDef}
+use Rattle.struct_vectors.specs.Columns.{ColumnValue, narrow, some_slots}
+use Rattle.table_load.specs.Databases.{path_of}
+use Rattle.table_load.specs.Held.{code_of}
+
+-- a cell as the number that a vector keeps, where the texts have these codes
+abbrev pub cell_code : List ℤ → Bool → ℤ → ℤ
+cell_code codes true z = slice_index_or codes (code_of z) (pos 0)
+cell_code codes false z = z
+
+abbrev pub recoded : List ℤ → Bool → List ℤ → List ℤ
+recoded codes k cells = map (cell_code codes k) cells
+
+-- a column's attribute
+abbrev pub attribute_in : List ℤ → ColumnDef → Bool → List ℤ → List ℕ × ColumnValue
+attribute_in codes def k cells = (path_of def, record { slots = some_slots (recoded codes k cells); form = narrow })
+
+abbrev pub attributes_in : List ℤ → List Bool → List (List ℤ) → List ColumnDef → List (List ℕ × ColumnValue)
+attributes_in codes ks cs [] = []
+attributes_in codes [] cs (d ∷ ds) = []
+attributes_in codes (k ∷ ks) [] (d ∷ ds) = []
+attributes_in codes (k ∷ ks) (c ∷ cs) (d ∷ ds) = attribute_in codes d k c ∷ attributes_in codes ks cs ds

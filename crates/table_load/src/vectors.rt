@@ -1,0 +1,192 @@
+//! The vectors of tables.
+
+ghost use Rattle.std.specs.Prelude.{◌≡◌, ◌≤◌, ◌<◌, ◌^◌, ◌++◌, ℕ, true, [], ◌∷◌, length, map, IfOk};
+ghost use Rattle.std.specs.List.{All};
+ghost use Rattle.dict_codes.specs.Ascending.{ascending};
+ghost use Rattle.dict_codes.specs.Dictionaries.{by_bytes};
+ghost use Rattle.sql_types.specs.Catalog.{findings};
+ghost use Rattle.struct_vectors.specs.Vectors.{IsBelowRoot, vector_of};
+ghost use Rattle.table_load.specs.Columns.{columns_in};
+ghost use Rattle.table_load.specs.Databases.{store_of, vector_of_table};
+ghost use Rattle.table_load.specs.Held.{AreColumns, IsCell, IsCode};
+ghost use Rattle.table_load.specs.Vectors.{attribute_in, attributes_in, cell_code, recoded};
+
+use crate::RawTable;
+use crate::dictionaries::codes_of;
+use dict_codes::Dictionary;
+use io_edge::{Name, NoMemory};
+use key_paths::Path;
+use sql_read::{ColumnDef, TableDef};
+use std::alloc::{AllocError, Global};
+use struct_vectors::{Column, Store, StructVector};
+
+/// The store of the vectors of tables.
+pub fn store_of_tables(
+    alloc: Global,
+    defs: &[TableDef],
+    tables: Vec<RawTable>,
+    dictionary: &Dictionary,
+) -> Result<Store, NoMemory>
+    requires clean { findings defs.now ≡ [] }
+    requires loaded { map (λ t. t.degree) tables.items ≡ map (λ d. length d.columns) defs.now }
+    ensures { IfOk result (λ s. s ≡ store_of dictionary.now defs.now tables.items) }
+{
+    let vectors = vectors_of_tables(alloc, defs, tables, dictionary)?;
+    Ok(Store::new(vectors))
+}
+
+/// A named vector for each table.
+fn vectors_of_tables(
+    alloc: Global,
+    defs: &[TableDef],
+    tables: Vec<RawTable>,
+    dictionary: &Dictionary,
+) -> Result<Vec<(Name, StructVector)>, NoMemory>
+    requires loaded { map (λ t. t.degree) tables.items ≡ map (λ d. length d.columns) defs.now }
+    ensures { IfOk result (λ v. v.items ≡ store_of dictionary.now defs.now tables.items) }
+{
+    let mut vectors = Vec::with_capacity(alloc, defs.len())?;
+    let mut i = 0;
+    for table in tables {
+        if i < defs.len() {
+            let def = &defs[i];
+            vectors.push((
+                def.name.copied(alloc)?,
+                vector_of(alloc, def, table, dictionary)?,
+            ))?;
+            i += 1;
+        }
+    }
+    Ok(vectors)
+}
+
+/// The vector of a table.
+fn vector_of(
+    alloc: Global,
+    def: &TableDef,
+    table: RawTable,
+    dictionary: &Dictionary,
+) -> Result<StructVector, NoMemory>
+    requires loaded { table.degree ≡ length def.now.columns }
+    ensures { IfOk result (λ v. v ≡ vector_of_table dictionary.now def.now table) }
+{
+    let RawTable {
+        columns,
+        are_texts,
+        texts,
+        count,
+    } = table;
+    let codes = codes_of(alloc, dictionary, texts.as_slice())?;
+    let attributes = attributes_of(
+        alloc,
+        def.columns.as_slice(),
+        columns,
+        are_texts.as_slice(),
+        codes.as_slice(),
+    )?;
+    vector_of_attributes(alloc, count, attributes)
+}
+
+/// The vector of attributes whose columns have one length, and whose paths differ.
+fn vector_of_attributes(
+    alloc: Global,
+    count: u32,
+    attributes: Vec<(Path, Column)>,
+) -> Result<StructVector, NoMemory>
+    requires few { count ≤ 2 ^ 20 }
+    requires named { All (λ a. IsBelowRoot a.0) attributes.items }
+    ensures { IfOk result (λ v. v ≡ vector_of count (ascending (λ a b. by_bytes a.0 b.0) attributes.items)) }
+{
+    if attributes.is_empty() || attributes.len() > 4_294_967_295 {
+        return Err(AllocError);
+    }
+    // Columns of one table have one length, and their paths differ and are not nested: so it fails for want of memory alone.
+    match StructVector::new(alloc, count, attributes) {
+        Ok(vector) => Ok(vector),
+        Err(_) => Err(AllocError),
+    }
+}
+
+/// An attribute for each column.
+fn attributes_of(
+    alloc: Global,
+    defs: &[ColumnDef],
+    columns: Vec<Vec<i64>>,
+    are_texts: &[bool],
+    codes: &[i64],
+) -> Result<Vec<(Path, Column)>, NoMemory>
+    requires whole { (n : ℕ) × (n ≤ 2 ^ 20) × AreColumns (length codes.now) n are_texts.now (columns_in columns.items) }
+    requires lengths { length are_texts.now ≡ length defs.now }
+    ensures attributes { IfOk result (λ v. v.items ≡ attributes_in codes.now are_texts.now (columns_in columns.items) defs.now) }
+    ensures named { IfOk result (λ v. All (λ a. IsBelowRoot a.0) v.items) }
+{
+    let mut attributes = Vec::with_capacity(alloc, defs.len())?;
+    let mut i = 0;
+    for numbers in columns {
+        if i < defs.len() && i < are_texts.len() {
+            attributes.push(attribute_of(alloc, &defs[i], numbers, are_texts[i], codes)?)?;
+            i += 1;
+        }
+    }
+    Ok(attributes)
+}
+
+/// The attribute of a column.
+fn attribute_of(
+    alloc: Global,
+    def: &ColumnDef,
+    numbers: Vec<i64>,
+    is_text: bool,
+    codes: &[i64],
+) -> Result<(Path, Column), NoMemory>
+    requires few { length numbers.items ≤ 2 ^ 22 }
+    requires cells { All (IsCell (length codes.now) is_text) numbers.items }
+    ensures attribute { IfOk result (λ a. a ≡ attribute_in codes.now def.now is_text numbers.items) }
+    ensures named { IfOk result (λ a. IsBelowRoot a.0) }
+{
+    let path = path_of(alloc, def.name.text())?;
+    if !is_text {
+        return Ok((path, Column::narrow(numbers)));
+    }
+    let numbers = recoded(alloc, numbers.as_slice(), codes)?;
+    Ok((path, Column::narrow(numbers)))
+}
+
+/// The path of a column: a dot and its name.
+fn path_of(alloc: Global, name: &str) -> Result<Path, NoMemory>
+    ensures path { IfOk result (λ p. p ≡ 46 ∷ name.now) }
+    ensures named { IfOk result IsBelowRoot }
+{
+    // A name has 1 to 64 bytes, so that a path of it can be had.
+    if name.is_empty() || name.len() > 64 {
+        return Err(AllocError);
+    }
+    let mut text = String::new(alloc);
+    text.push('.')?;
+    text.push_str(name)?;
+    match Path::read(alloc, text.as_str()) {
+        Ok(path) => Ok(path),
+        Err(_) => Err(AllocError),
+    }
+}
+
+/// The codes of the texts that cells name.
+fn recoded(alloc: Global, cells: &[i64], codes: &[i64]) -> Result<Vec<i64>, NoMemory>
+    requires { All (IsCell (length codes.now) true) cells.now }
+    ensures codes { IfOk result (λ v. v.items ≡ recoded codes.now true cells.now) }
+    ensures as_many { IfOk result (λ v. length v.items ≡ length cells.now) }
+{
+    let mut numbers = Vec::with_capacity(alloc, cells.len())?;
+    for cell in cells {
+        numbers.push(code_at(codes, *cell))?;
+    }
+    Ok(numbers)
+}
+
+/// The code of the text that a cell names.
+fn code_at(codes: &[i64], cell: i64) -> i64
+    requires { IsCode (length codes.now) cell }
+    ensures { result ≡ cell_code codes.now true cell }
+{
+    codes[cell as usize]
+}
