@@ -1,5 +1,5 @@
 -- The dictionary of tables, from their distinct texts.
-use Rattle.std.proofs.Common.{◌≡◌, ◌∙◌, ℕ, suc, ◌+◌, ◌<◌, Bool, true, false, cond, List, [], ◌∷◌, ◌++◌, length, map, flat_map, Result, Ok, Err, refl, sym, ap, subst, inl, inr, ◌⊎◌, ⊎_elim, arith}
+use Rattle.std.proofs.Common.{◌≡◌, ℕ, Bool, true, false, cond, List, [], ◌∷◌, ◌++◌, flat_map, Result, Ok, Err, refl, sym, subst, inl, inr, ◌⊎◌, ⊎_elim}
 use Rattle.std.specs.Prelude.{IfOk, ◌↔◌}
 use Rattle.std.specs.List.{Contains, list_any}
 use Rattle.std.specs.Str.{bytes_eq}
@@ -7,7 +7,7 @@ use Rattle.std.proofs.lemmas.Cmp.{nat_list_cmp_total}
 use Rattle.std.proofs.lemmas.List.Elements.{Contains-append_cases, Contains-append_left, Contains-append_right, Contains-push, Contains-push_cases}
 use Rattle.std.proofs.lemmas.List.Folds.{Any-from_list_any}
 use Rattle.std.proofs.lemmas.Slice.Eq.{bytes_eq-Decides}
-use Rattle.dict_codes.specs.Dictionaries.{by_bytes, dictionary_of, IsAscending}
+use Rattle.dict_codes.specs.Dictionaries.{dictionary_of, IsAscending}
 use Rattle.dict_codes.proofs.AscendingLaws.{ascending-is}
 use Rattle.dict_codes.proofs.DictionaryLaws.{sorted_from_ascending}
 use Rattle.dict_codes.proofs.Members.{first_or_later, here, nothing_in, there}

@@ -1,22 +1,21 @@
 -- Where keys stand among the rows that are held.
-use Rattle.std.proofs.Common.{◌≡◌, ◌∙◌, ℕ, zero, suc, ◌+◌, ◌<◌, ◌≤◌, ℤ, pos, negsuc, Bool, true, false, cond, List, [], ◌∷◌, ◌++◌, length, map, take, get_or, Option, Some, None, refl, sym, ap, subst, inl, inr, ◌⊎◌, ⊎_elim, arith, add-one}
+use Rattle.std.proofs.Common.{◌≡◌, ◌∙◌, ℕ, zero, suc, ◌+◌, ◌<◌, ◌≤◌, ℤ, pos, negsuc, Bool, true, false, cond, List, [], ◌∷◌, ◌++◌, length, map, take, get_or, Option, Some, None, refl, sym, ap, subst, inl, inr, ◌⊎◌, arith, add-one}
 use Rattle.std.specs.Prelude.{slice_get, IfSome}
 use Rattle.std.specs.Option.{option_map, option_or}
 use Rattle.std.specs.Ordering.{int_eq}
 use Rattle.std.specs.List.{All, IsDistinct, list_any, position_from}
 use Rattle.std.specs.Str.{bytes_eq}
 use Rattle.std.specs.Cmp.Lexicographic.{nat_list_eq_equiv}
-use Rattle.std.proofs.lemmas.Bool.{cases_Bool, cases_lt, false≢true}
+use Rattle.std.proofs.lemmas.Bool.{cases_Bool, cases_lt}
 use Rattle.std.proofs.lemmas.Bool.Decides.{Decides-int_eq}
 use Rattle.std.proofs.lemmas.Cmp.{int_eq_equiv}
 use Rattle.std.proofs.lemmas.List.{map-append, take_all, take_more}
 use Rattle.std.proofs.lemmas.Map.Keys.{apart_from_distinct, IsDistinct-push}
 use Rattle.std.proofs.lemmas.Option.{slice_get-get_or}
-use Rattle.table_load.specs.Values.{Value, number, same_value, text, value_at}
-use Rattle.table_load.specs.Tables.{row_with_key}
+use Rattle.table_load.specs.Values.{same_value, value_at}
 use Rattle.table_load.specs.Columns.{empty_columns}
-use Rattle.table_load.specs.Held.{AreCells, AreColumns, cells_at, code_of, IsCell, IsCode, note, noted, row_at, rows_held, rows_to, value_of, values_of, with_cells}
-use Rattle.table_load.specs.Reading.{Agrees, key_twice, noted_cell, noted_places, twice_at}
+use Rattle.table_load.specs.Held.{AreColumns, cells_at, IsCell, note, noted, row_at, rows_held, rows_to, value_of, values_of, with_cells}
+use Rattle.table_load.specs.Reading.{Agrees, key_twice, noted_places, twice_at}
 use Rattle.table_load.proofs.Rowwise.{Grows, cell_within, grown_length, rows_to-more, rows_to-none, value_grown}
 
 -- ---- places in a list

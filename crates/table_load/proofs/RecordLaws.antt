@@ -1,5 +1,5 @@
 -- The row of a record, by what its fields are and where its key stands before.
-use Rattle.std.proofs.Common.{◌≡◌, ◌∙◌, ℕ, zero, suc, ◌+◌, ◌<◌, ◌≤◌, ℤ, Bool, true, false, List, [], ◌∷◌, ◌++◌, length, map, get_or, Option, Some, None, Result, Ok, Err, refl, sym, ap, subst, arith, add-one, append-nil}
+use Rattle.std.proofs.Common.{◌≡◌, ◌∙◌, ℕ, zero, suc, ◌+◌, ◌<◌, ◌≤◌, ℤ, Bool, false, List, [], ◌∷◌, ◌++◌, length, map, get_or, Option, Some, None, Result, Ok, Err, refl, sym, ap, subst, arith, append-nil}
 use Rattle.std.specs.Prelude.{slice_get, unwrap_or}
 use Rattle.std.specs.Option.{option_map}
 use Rattle.sql_read.specs.declared.definition.TableDef.{TableDef}
@@ -7,7 +7,7 @@ use Rattle.std.proofs.lemmas.Bool.{eq-eqb, lt-leb}
 use Rattle.table_load.specs.declared.refusal.DataKind.{DataKind}
 use Rattle.table_load.specs.declared.refusal.DataKind.TheVariants.{KeyTwice}
 use Rattle.table_load.specs.Values.{Value, field_values}
-use Rattle.table_load.specs.Tables.{before_row, key_place, keyed, record_row, keyed_at, new_key, row_from, row_with_key, with_key}
+use Rattle.table_load.specs.Tables.{key_place, record_row, keyed_at, row_from, row_with_key, with_key}
 use Rattle.table_load.specs.Held.{AreCells, IsCell, value_of, values_of}
 use Rattle.table_load.specs.Reading.{Agrees, key_twice, ReadsFields, twice_at}
 

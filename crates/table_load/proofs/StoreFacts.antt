@@ -1,13 +1,12 @@
 -- The vectors of tables, one more, and that their names differ.
-use Rattle.std.proofs.Common.{◌≡◌, ◌≢◌, ◌∙◌, ℕ, zero, suc, ◌+◌, ◌<◌, ◌≤◌, Bool, true, false, cond, List, [], ◌∷◌, ◌++◌, length, map, take, drop, get_or, refl, sym, ap, subst, inl, inr, ◌⊎◌, arith, add-one}
-use Rattle.std.specs.List.{AllPairs, filter, list_any}
-use Rattle.std.specs.Str.{bytes_eq}
+use Rattle.std.proofs.Common.{◌≡◌, ◌≢◌, ◌∙◌, ℕ, zero, suc, ◌+◌, ◌<◌, ◌≤◌, Bool, true, false, List, [], ◌∷◌, ◌++◌, length, map, take, drop, get_or, refl, sym, ap, inl, inr, ◌⊎◌, arith}
+use Rattle.std.specs.List.{AllPairs, filter}
 use Rattle.std.proofs.lemmas.Bool.{cases_Bool, cases_lt, false≢true}
 use Rattle.std.proofs.lemmas.List.{drop_all, drop_more, get_or-map, get_or-take, length-map, length-take-le}
 use Rattle.std.proofs.lemmas.List.Folds.{list_any_at}
 use Rattle.std.proofs.lemmas.Slice.Eq.{bytes_eq-Decides}
 use Rattle.sql_read.specs.declared.definition.TableDef.{TableDef}
-use Rattle.sql_types.specs.Catalog.{findings, is_later_table, is_table_named, table_findings, table_twice, tables_twice, too_many_tables, with_earlier}
+use Rattle.sql_types.specs.Catalog.{findings, is_later_table, is_table_named, table_twice, tables_twice, too_many_tables, with_earlier}
 use Rattle.sql_types.proofs.FindingFolds.{length-with_earlier}
 use Rattle.struct_vectors.specs.Stores.{HaveDistinctNames}
 use Rattle.table_load.specs.Databases.{store_of, vector_of_table}

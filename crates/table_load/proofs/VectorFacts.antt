@@ -1,8 +1,7 @@
 -- The vector of a table, from its columns.
-use Rattle.std.proofs.Common.{◌≡◌, ◌∙◌, ℕ, zero, suc, ◌+◌, ◌<◌, ◌≤◌, ◌^◌, ℤ, pos, negsuc, Bool, true, false, List, [], ◌∷◌, ◌++◌, length, map, drop, get_or, Option, Some, refl, sym, ap, subst, inl, inr, ◌⊎◌, arith, add-one}
-use Rattle.std.specs.Prelude.{slice_get}
-use Rattle.std.specs.List.{All, AllPairs, Contains}
-use Rattle.std.specs.List.Sorted.{IsPermutation, IsStrictlySortedBy}
+use Rattle.std.proofs.Common.{◌≡◌, ◌∙◌, ℕ, suc, ◌+◌, ◌<◌, ◌≤◌, ℤ, pos, negsuc, Bool, true, false, List, [], ◌∷◌, length, map, drop, get_or, Option, Some, refl, sym, ap, subst, inl, inr, ◌⊎◌, arith}
+use Rattle.std.specs.List.{All, AllPairs}
+use Rattle.std.specs.List.Sorted.{IsStrictlySortedBy}
 use Rattle.std.specs.Ordering.{is_lt}
 use Rattle.std.proofs.lemmas.Cmp.{nat_list_cmp_total, on_total}
 use Rattle.std.proofs.lemmas.Bool.{cases_lt}
@@ -17,8 +16,8 @@ use Rattle.sql_read.specs.declared.definition.ColumnDef.{ColumnDef}
 use Rattle.sql_read.specs.declared.definition.TableDef.{TableDef}
 use Rattle.struct_vectors.specs.Columns.{ColumnValue, narrow, some_slots}
 use Rattle.struct_vectors.specs.Vectors.{IsArranged, paths_of, vector_of, VectorValue}
-use Rattle.table_load.specs.Databases.{attributes_from, coded, column_of, path_of, vector_of_table}
-use Rattle.table_load.specs.Held.{AreColumns, code_of, IsCell, IsCode, row_at, rows_held, value_of}
+use Rattle.table_load.specs.Databases.{attributes_from, coded, column_of, vector_of_table}
+use Rattle.table_load.specs.Held.{AreColumns, IsCell, IsCode, row_at, rows_held, value_of}
 use Rattle.table_load.specs.Values.{Value, value_at}
 use Rattle.table_load.specs.Vectors.{attribute_in, attributes_in, cell_code, recoded}
 use Rattle.table_load.proofs.KeyLaws.{column_held, column_whole}

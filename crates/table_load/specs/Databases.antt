@@ -1,5 +1,5 @@
 -- The database of some tables: a vector for each table, and the dictionary of all their texts. In a vector a text is its code there.
-use Rattle.std.specs.Prelude.{ℕ, ◌+◌, ℤ, pos, List, [], ◌∷◌, length, map, flat_map, Option, Some}
+use Rattle.std.specs.Prelude.{ℕ, ◌+◌, ℤ, pos, List, [], ◌∷◌, length, map, flat_map, Some}
 use Rattle.dict_codes.specs.Ascending.{ascending}
 use Rattle.dict_codes.specs.Dictionaries.{by_bytes, dictionary_of, rank_in}
 use Rattle.sql_read.specs.declared.definition.ColumnDef.{ColumnDef}

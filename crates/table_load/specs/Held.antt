@@ -1,10 +1,10 @@
 -- How a table is held: its columns as whole numbers, with a list of its distinct texts, of which a cell of a column of texts has the place.
-use Rattle.std.specs.Prelude.{◌≡◌, ℕ, zero, suc, ◌+◌, ◌<◌, ◌≤◌, ◌^◌, ℤ, pos, negsuc, Bool, true, false, List, [], ◌∷◌, ◌++◌, length, map, fold, if◌then◌else◌, slice_index_or, ⊤}
+use Rattle.std.specs.Prelude.{◌≡◌, ℕ, zero, suc, ◌<◌, ◌≤◌, ◌^◌, ℤ, pos, negsuc, Bool, true, false, List, [], ◌∷◌, ◌++◌, length, map, fold, if◌then◌else◌, slice_index_or, ⊤}
 use Rattle.std.specs.List.{All, list_any}
 use Rattle.std.specs.Str.{bytes_eq}
 use Rattle.sql_read.specs.declared.definition.ColumnDef.{ColumnDef}
 use Rattle.sql_types.specs.Catalog.{is_text}
-use Rattle.table_load.specs.Values.{Value, Table, number, text}
+use Rattle.table_load.specs.Values.{Value, number, text}
 use Rattle.table_load.specs.Databases.{rows_texts}
 
 -- ---- texts, each once, in the order of their first places

@@ -1,5 +1,5 @@
 -- What the parts of a load read, against the table's definition.
-use Rattle.std.specs.Prelude.{◌≡◌, ℕ, zero, ◌+◌, if◌then◌else◌, ℤ, Bool, false, List, [], ◌∷◌, ◌++◌, length, map, Option, Some, None, Result, Ok, Err, slice_get, slice_index_or, ⊤}
+use Rattle.std.specs.Prelude.{◌≡◌, ℕ, ◌+◌, if◌then◌else◌, ℤ, Bool, false, List, ◌∷◌, ◌++◌, length, map, Option, Some, None, Result, Ok, Err, slice_get, slice_index_or, ⊤}
 use Rattle.std.specs.Option.{option_map}
 use Rattle.std.specs.Ordering.{int_eq}
 use Rattle.table_load.specs.declared.refusal.DataKind.{DataKind}

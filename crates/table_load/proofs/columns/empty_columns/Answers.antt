@@ -1,4 +1,4 @@
-use Rattle.std.proofs.Common.{rules, ◌≡◌, ◌∙◌, ◌++◌, ◌∷◌, [], true, ap, sym, refl}
+use Rattle.std.proofs.Common.{◌∙◌, ◌++◌, ◌∷◌, [], ap, sym}
 use Rattle.table_load.specs.Columns.{columns_in}
 use Rattle.table_load.proofs.ColumnLaws.{empty_more, in_push}
 use Rattle.table_load.proofs.columns.empty_columns.Goals as goal

@@ -1,4 +1,4 @@
-use Rattle.std.proofs.Common.{rules, ◌≡◌, ◌∙◌, ◌≤◌, ◌<◌, ◌+◌, ◌++◌, ◌∷◌, [], ℤ, pos, List, length, take, get_or, set, arith, refl, sym, ap}
+use Rattle.std.proofs.Common.{rules, ◌≡◌, ◌∙◌, ◌≤◌, ◌<◌, ◌+◌, ◌++◌, ◌∷◌, [], pos, length, get_or, set, arith, refl, sym, ap}
 use Rattle.std.proofs.lemmas.List.{length-map, length-set, take_all}
 use Rattle.table_load.specs.Columns.{columns_in}
 use Rattle.table_load.specs.Held.{with_cells}

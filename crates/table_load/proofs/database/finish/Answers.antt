@@ -1,4 +1,4 @@
-use Rattle.std.proofs.Common.{◌≡◌, refl}
+use Rattle.std.proofs.Common.{refl}
 use Rattle.table_load.specs.Databases.{database_of}
 use Rattle.table_load.proofs.database.finish.Goals as goal
 

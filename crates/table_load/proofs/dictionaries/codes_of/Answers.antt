@@ -1,4 +1,4 @@
-use Rattle.std.proofs.Common.{rules, ◌≡◌, ◌∙◌, ◌++◌, ◌∷◌, [], ℕ, List, pos, ap, sym, map, take, arith}
+use Rattle.std.proofs.Common.{rules, ◌≡◌, ◌∙◌, ◌++◌, ◌∷◌, [], pos, ap, sym, map, take}
 use Rattle.std.proofs.lemmas.List.{map_more}
 use Rattle.dict_codes.specs.Dictionaries.{rank_in}
 use Rattle.table_load.proofs.dictionaries.codes_of.Goals as goal

@@ -1,4 +1,4 @@
-use Rattle.std.proofs.Common.{rules, ◌≡◌, ◌∙◌, ap, arith}
+use Rattle.std.proofs.Common.{◌∙◌, ap}
 use Rattle.std.proofs.lemmas.List.{take_all}
 use Rattle.table_load.proofs.DictionaryFacts.{distinct_texts, made_of_tables}
 use Rattle.table_load.proofs.dictionaries.dictionary_of_tables.Goals as goal

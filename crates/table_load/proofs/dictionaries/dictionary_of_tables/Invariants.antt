@@ -1,4 +1,4 @@
-use Rattle.std.proofs.Common.{◌≡◌, ◌++◌, [], take, flat_map}
+use Rattle.std.proofs.Common.{◌≡◌, [], take, flat_map}
 use Rattle.table_load.specs.Databases.{rows_texts}
 use Rattle.table_load.specs.Held.{noted}
 use Rattle.table_load.proofs.dictionaries.dictionary_of_tables.Given as goal

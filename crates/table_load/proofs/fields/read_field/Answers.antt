@@ -1,4 +1,3 @@
-use Rattle.std.proofs.Common.{◌≡◌}
 use Rattle.table_load.proofs.Rowwise.{noted_none}
 use Rattle.table_load.proofs.fields.read_field.Goals as goal
 

@@ -1,12 +1,10 @@
-use Rattle.std.proofs.Common.{rules, Bor, ◌≡◌, ◌∙◌, ◌+◌, ◌<◌, ◌++◌, ◌∷◌, [], ℕ, ℤ, List, Ok, Err, Result, length, get_or, drop, false, sym, ap, subst, refl, arith, length-append}
+use Rattle.std.proofs.Common.{rules, Bor, ◌≡◌, ◌∙◌, ◌+◌, ◌<◌, ◌++◌, ◌∷◌, [], ℕ, List, length, get_or, drop, false, sym, ap, refl, arith, length-append}
 use Rattle.std.specs.Option.{option_map}
 use Rattle.std.proofs.lemmas.List.{get_or-map, length-map}
 use Rattle.csv.specs.Records.{fields_of}
-use Rattle.table_load.specs.Held.{is_text_column, noted, text_columns, value_of, values_of}
-use Rattle.table_load.specs.Databases.{row_texts}
-use Rattle.table_load.specs.Values.{Value, field_value, field_values}
-use Rattle.table_load.specs.declared.refusal.DataKind.{DataKind}
-use Rattle.table_load.proofs.FieldLaws.{cell_more, cells_empty, oks-push, value_step, values_empty, values_end}
+use Rattle.table_load.specs.Held.{is_text_column, text_columns, value_of, values_of}
+use Rattle.table_load.specs.Values.{field_value, field_values}
+use Rattle.table_load.proofs.FieldLaws.{cell_more, cells_empty, oks-push, value_step, values_empty}
 use Rattle.table_load.proofs.RecordLaws.{oks}
 use Rattle.table_load.proofs.Rowwise.{noted_none}
 use Rattle.table_load.proofs.fields.read_fields.Goals as goal

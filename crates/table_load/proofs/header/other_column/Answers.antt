@@ -3,7 +3,7 @@ use Rattle.std.proofs.lemmas.Bool.{eq-eqb}
 use Rattle.std.specs.Option.{option_map}
 use Rattle.csv.specs.Records.{fields_of}
 use Rattle.table_load.specs.Tables.{is_same_name}
-use Rattle.table_load.proofs.FieldLaws.{field_missing, other_none, other_step}
+use Rattle.table_load.proofs.FieldLaws.{field_missing, other_step}
 use Rattle.table_load.proofs.header.other_column.Goals as goal
 use Rattle.table_load.proofs.header.other_column.Goals.{in-Some+else-not-is_name, in_default}
 

@@ -1,4 +1,3 @@
-use Rattle.std.proofs.Common.{◌≡◌, ◌∙◌}
 use Rattle.table_load.specs.Tables.{table_of}
 use Rattle.table_load.proofs.loading.load.Goals as goal
 

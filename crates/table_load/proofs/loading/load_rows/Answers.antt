@@ -1,13 +1,12 @@
-use Rattle.std.proofs.Common.{rules, ◌≡◌, ◌∙◌, ◌∷◌, ◌<◌, ◌≤◌, ◌^◌, [], ℕ, ℤ, List, Option, length, sym, ap, refl, arith}
+use Rattle.std.proofs.Common.{rules, ◌≡◌, ◌∙◌, ◌∷◌, [], ℕ, ℤ, Option, length, sym, ap, refl, arith}
 use Rattle.std.specs.HashMap.{get}
 use Rattle.std.specs.Ordering.{int_eq}
 use Rattle.std.proofs.lemmas.List.{length-map}
 use Rattle.csv.specs.Records.{fields_of}
 use Rattle.table_load.specs.Columns.{columns_in, empty_columns}
-use Rattle.table_load.specs.Databases.{rows_texts}
-use Rattle.table_load.specs.Held.{AreColumns, is_text_column, noted, row_at, rows_held, text_columns, with_cells}
+use Rattle.table_load.specs.Held.{is_text_column, row_at, rows_held, text_columns, with_cells}
 use Rattle.table_load.specs.Tables.{rows_after}
-use Rattle.table_load.proofs.KeyLaws.{empty_whole, KeysPlaced, placed_none}
+use Rattle.table_load.proofs.KeyLaws.{empty_whole, placed_none}
 use Rattle.table_load.proofs.LoadLaws.{agree_more, load_refused, row_more, rows_done, table_is, within_map}
 use Rattle.table_load.proofs.Rowwise.{length-rows_to, noted_none, rows_to-none}
 use Rattle.table_load.proofs.loading.load_rows.Goals as goal

@@ -1,4 +1,4 @@
-use Rattle.std.proofs.Common.{◌≡◌, ◌≤◌, ◌^◌, ℤ, [], length}
+use Rattle.std.proofs.Common.{◌≡◌, ◌≤◌, ◌^◌, [], length}
 use Rattle.std.specs.HashMap.{get}
 use Rattle.std.specs.Ordering.{int_eq}
 use Rattle.table_load.specs.Columns.{columns_in}

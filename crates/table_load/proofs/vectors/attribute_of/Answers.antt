@@ -1,4 +1,4 @@
-use Rattle.std.proofs.Common.{rules, ◌≡◌, ◌∙◌, false, refl, ap, sym}
+use Rattle.std.proofs.Common.{rules, ◌≡◌, false, refl}
 use Rattle.table_load.proofs.VectorFacts.{recoded_plain}
 use Rattle.table_load.proofs.vectors.attribute_of.Goals as goal
 

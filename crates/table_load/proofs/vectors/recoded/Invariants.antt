@@ -1,4 +1,4 @@
-use Rattle.std.proofs.Common.{◌≡◌, map, take, true, length}
+use Rattle.std.proofs.Common.{◌≡◌, take, true}
 use Rattle.table_load.specs.Vectors.{recoded}
 use Rattle.table_load.proofs.vectors.recoded.Given as goal
 

@@ -1,4 +1,4 @@
-use Rattle.std.proofs.Common.{◌≡◌, subst, sym}
+use Rattle.std.proofs.Common.{subst, sym}
 use Rattle.struct_vectors.specs.Stores.{HaveDistinctNames}
 use Rattle.table_load.proofs.StoreFacts.{distinct_store}
 use Rattle.table_load.proofs.vectors.store_of_tables.Goals as goal

@@ -1,4 +1,4 @@
-use Rattle.std.proofs.Common.{rules, ◌≡◌, ◌∙◌, sym, ap, map, pos, length}
+use Rattle.std.proofs.Common.{◌≡◌, ◌∙◌, ap, map, pos}
 use Rattle.dict_codes.specs.Dictionaries.{rank_in}
 use Rattle.table_load.specs.Columns.{columns_in}
 use Rattle.table_load.specs.Vectors.{attributes_in}

@@ -1,5 +1,5 @@
-use Rattle.std.proofs.Common.{rules, ◌≡◌, ◌∙◌, ◌++◌, ◌∷◌, [], sym, ap, true, false, pos, arith, Result, Ok, Err}
-use Rattle.std.specs.Prelude.{string_bytes, is_some, slice_get, length, IfOk}
+use Rattle.std.proofs.Common.{rules, ◌≡◌, ◌∙◌, ◌++◌, ◌∷◌, [], sym, ap, false, Result, Ok, Err}
+use Rattle.std.specs.Prelude.{string_bytes, is_some, length, IfOk}
 use Rattle.std.specs.List.{list_any}
 use Rattle.std.specs.Result.{is_err}
 use Rattle.std.specs.Str.{bytes_eq}
