@@ -3,3 +3,4 @@ pub mod VectorLaws
 pub mod MakerLaws
 pub mod ShapeLaws
 pub mod ArrangeLaws
+pub mod ColumnFronts

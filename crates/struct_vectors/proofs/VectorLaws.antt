@@ -15,6 +15,12 @@ paths_of-zip [] columns e = refl
 paths_of-zip (p ∷ paths) [] e = absurd (omega arith)
 paths_of-zip (p ∷ paths) (c ∷ columns) e = ap (λ (l : List (List ℕ)). p ∷ l) (paths_of-zip paths columns (omega arith))
 
+pub columns_of-zip : (paths : List (List ℕ)) (columns : List ColumnValue) → length columns ≡ length paths → columns_of (zip paths columns) ≡ columns
+columns_of-zip [] [] e = refl
+columns_of-zip [] (c ∷ columns) e = absurd (omega arith)
+columns_of-zip (p ∷ paths) [] e = refl
+columns_of-zip (p ∷ paths) (c ∷ columns) e = ap (λ (l : List ColumnValue). c ∷ l) (columns_of-zip paths columns (omega arith))
+
 pub zip-parts : (attributes : List (List ℕ × ColumnValue)) → zip (paths_of attributes) (columns_of attributes) ≡ attributes
 zip-parts [] = refl
 zip-parts (a ∷ attributes) = ap (λ (l : List (List ℕ × ColumnValue)). a ∷ l) (zip-parts attributes)

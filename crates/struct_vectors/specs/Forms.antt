@@ -1,5 +1,5 @@
 -- What a column's form holds.
-use Rattle.std.specs.Prelude.{◌≡◌, ◌≤◌, ◌^◌, length}
+use Rattle.std.specs.Prelude.{◌≡◌, ℕ, ◌≤◌, ◌^◌, length, take}
 use Rattle.struct_vectors.specs.declared.forms.Form.{Form}
 use Rattle.struct_vectors.specs.declared.forms.Form.TheVariants.{Narrow, NarrowWithEmpties, Wide, WideWithEmpties, Symbolic}
 use Rattle.control_vectors.specs.Controls.{control_list}
@@ -24,3 +24,9 @@ IsWhole (Symbolic c n) = n ≤ 2 ^ 22
 pub record IsCopyOf (form copy : Form) : Type 0 where
   pub same : value_of copy ≡ value_of form
   pub whole : IsWhole copy
+
+-- a front: the first n slots, kept in the same way
+pub record IsFrontOf (n : ℕ) (whole front : Form) : Type 0 where
+  pub slots : (value_of front).slots ≡ take n (value_of whole).slots
+  pub form : (value_of front).form ≡ (value_of whole).form
+  pub sound : IsWhole front

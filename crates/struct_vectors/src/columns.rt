@@ -1,5 +1,5 @@
 //! Columns of slots.
-ghost use Rattle.std.specs.Prelude.{◌≡◌, ◌≢◌, ◌^◌, ◌<◌, ◌≤◌, Some, length, map, slice_get, vec_len, IfOk, MatchOption};
+ghost use Rattle.std.specs.Prelude.{◌≡◌, ◌≢◌, ◌^◌, ◌<◌, ◌≤◌, Some, length, map, slice_get, take, vec_len, IfOk, MatchOption};
 ghost use Rattle.control_vectors.specs.Slots.{cells_of};
 ghost use Rattle.control_vectors.specs.Controls.{control_list};
 ghost use Rattle.struct_vectors.specs.Columns.{ColumnValue, some_slots, marked_slots, narrow, narrow_with_empties, wide, wide_with_empties, symbolic, IsNoControl};
@@ -124,6 +124,19 @@ impl Column {
             Form::Symbolic(v, _) => Some(*v),
             _ => None,
         }
+    }
+
+    /// A column of the first `n` slots, kept in the same way.
+    pub fn front(&self, alloc: Global, n: u32) -> Result<Column, NoMemory>
+        requires { n ≤ length self.now.slots }
+        ensures { IfOk result (λ column. column ≡ record {
+          slots = take n self.now.slots;
+          form = self.now.form;
+        }) }
+    {
+        Ok(Column {
+            form: self.form.front(alloc, n)?,
+        })
     }
 
     /// Another column with the same slots, kept in the same way.

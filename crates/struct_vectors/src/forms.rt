@@ -1,8 +1,8 @@
 //! How a column's slots are kept.
-ghost use Rattle.std.specs.Prelude.{◌≡◌, ◌<◌, Some, length, slice_get, vec_len, IfOk};
+ghost use Rattle.std.specs.Prelude.{◌≡◌, ◌<◌, ◌≤◌, Some, length, slice_get, take, vec_len, IfOk};
 ghost use Rattle.control_vectors.specs.Controls.{control_list};
 ghost use Rattle.struct_vectors.specs.Columns.{some_slots, marked_slot, marked_slots};
-ghost use Rattle.struct_vectors.specs.Forms.{value_of, IsWhole, IsCopyOf};
+ghost use Rattle.struct_vectors.specs.Forms.{value_of, IsWhole, IsCopyOf, IsFrontOf};
 
 use crate::NoMemory;
 use control_vectors::{ControlVector, Slot};
@@ -46,6 +46,27 @@ impl Form {
             Form::Wide(numbers) => wide_slot(numbers, i),
             Form::WideWithEmpties(numbers, marks) => marked_wide_slot(numbers, marks, i),
             Form::Symbolic(v, n) => control_slot(*v, *n, i),
+        }
+    }
+
+    /// The first `n` slots, kept in the same way.
+    pub fn front(&self, alloc: Global, n: u32) -> Result<Form, NoMemory>
+        requires whole { IsWhole self.now }
+        requires within { n ≤ length (value_of self.now).slots }
+        ensures { IfOk result (IsFrontOf n self.now) }
+    {
+        match self {
+            Form::Narrow(numbers) => Ok(Form::Narrow(front_narrow(alloc, numbers, n)?)),
+            Form::NarrowWithEmpties(numbers, marks) => Ok(Form::NarrowWithEmpties(
+                front_narrow(alloc, numbers, n)?,
+                front_marks(alloc, marks, n)?,
+            )),
+            Form::Wide(numbers) => Ok(Form::Wide(front_wide(alloc, numbers, n)?)),
+            Form::WideWithEmpties(numbers, marks) => Ok(Form::WideWithEmpties(
+                front_wide(alloc, numbers, n)?,
+                front_marks(alloc, marks, n)?,
+            )),
+            Form::Symbolic(v, _) => Ok(Form::Symbolic(*v, n)),
         }
     }
 
@@ -138,4 +159,28 @@ fn copied_marks(alloc: Global, marks: &Vec<bool>) -> Result<Vec<bool>, NoMemory>
     ensures { IfOk result (λ copy. copy.items ≡ marks.now.items) }
 {
     Vec::from_slice(alloc, marks.as_slice())
+}
+
+/// The first numbers.
+fn front_narrow(alloc: Global, numbers: &Vec<i64>, n: u32) -> Result<Vec<i64>, NoMemory>
+    requires { n ≤ length numbers.now.items }
+    ensures { IfOk result (λ front. front.items ≡ take n numbers.now.items) }
+{
+    Vec::from_slice(alloc, &numbers.as_slice()[..n as usize])
+}
+
+/// The first numbers.
+fn front_wide(alloc: Global, numbers: &Vec<i128>, n: u32) -> Result<Vec<i128>, NoMemory>
+    requires { n ≤ length numbers.now.items }
+    ensures { IfOk result (λ front. front.items ≡ take n numbers.now.items) }
+{
+    Vec::from_slice(alloc, &numbers.as_slice()[..n as usize])
+}
+
+/// The first marks.
+fn front_marks(alloc: Global, marks: &Vec<bool>, n: u32) -> Result<Vec<bool>, NoMemory>
+    requires { n ≤ length marks.now.items }
+    ensures { IfOk result (λ front. front.items ≡ take n marks.now.items) }
+{
+    Vec::from_slice(alloc, &marks.as_slice()[..n as usize])
 }

@@ -1,5 +1,5 @@
 //! Structured vectors.
-ghost use Rattle.std.specs.Prelude.{◌≡◌, ◌+◌, ◌^◌, ◌<◌, ◌≤◌, length, vec_len, MatchOption, IfOk, IfErr};
+ghost use Rattle.std.specs.Prelude.{◌≡◌, ◌+◌, ◌^◌, ◌<◌, ◌≤◌, ◌∷◌, [], length, vec_len, MatchOption, IfOk, IfErr};
 ghost use Rattle.std.specs.Option.{option_copied};
 ghost use Rattle.std.specs.List.{All};
 ghost use Rattle.std.specs.Map.{lookup};
@@ -7,7 +7,7 @@ ghost use Rattle.std.specs.Str.{bytes_eq};
 ghost use Rattle.std.specs.List.Sorted.{IsPermutation, IsSortedByKey};
 ghost use Rattle.std.specs.Cmp.Lexicographic.{slice_cmp};
 ghost use Rattle.std.specs.Ordering.{nat_cmp};
-ghost use Rattle.struct_vectors.specs.Vectors.{IsShaped, IsArranged, IsBelowRoot, IsUniform, IsFirstOther, IsClashAt, HasNoClash, paths_of, columns_of};
+ghost use Rattle.struct_vectors.specs.Vectors.{vector_of, IsShaped, IsArranged, IsBelowRoot, IsUniform, IsFirstOther, IsClashAt, HasNoClash, paths_of, columns_of};
 ghost use Rattle.struct_vectors.specs.Refusals.{Refuses, NamesNeighbours};
 
 use crate::NoMemory;
@@ -71,6 +71,42 @@ impl StructVector {
         })
     }
 
+    /// The vector of one attribute, as long as its column.
+    pub fn of_column(alloc: Global, path: Path, column: Column) -> Result<StructVector, NoMemory>
+        requires { IsBelowRoot path }
+        ensures { IfOk result (λ v. v ≡ vector_of (length column.slots) ((path, column) ∷ [])) }
+    {
+        let count = column.len();
+        let is_named = !path.is_root();
+        prove!(is_named);
+        let mut paths = Vec::with_capacity(alloc, 1)?;
+        let mut columns = Vec::with_capacity(alloc, 1)?;
+        paths.push(path)?;
+        columns.push(column)?;
+        Ok(StructVector {
+            count,
+            paths,
+            columns,
+        })
+    }
+
+    /// The vector of `n` slots with these attributes, which are those of a vector in their order.
+    pub fn of_ordered(
+        alloc: Global,
+        n: u32,
+        attributes: Vec<(Path, Column)>,
+    ) -> Result<StructVector, NoMemory>
+        requires { IsShaped (vector_of n attributes.items) }
+        ensures { IfOk result (λ v. v ≡ vector_of n attributes.items) }
+    {
+        let (paths, columns) = parted(alloc, attributes)?;
+        Ok(StructVector {
+            count: n,
+            paths,
+            columns,
+        })
+    }
+
     /// How many slots each attribute has.
     pub fn len(&self) -> u32
         ensures len { result ≡ self.now.length }
@@ -87,6 +123,25 @@ impl StructVector {
         self.paths.as_slice()
     }
 
+    /// The columns, in the order of the paths.
+    pub fn columns(&self) -> &[Column]
+        ensures columns { result.now ≡ columns_of self.now.attributes }
+        ensures shaped { IsShaped self.now }
+    {
+        self.columns.as_slice()
+    }
+
+    /// Another vector with the same attributes, each kept in the same way.
+    pub fn copied(&self, alloc: Global) -> Result<StructVector, NoMemory>
+        ensures { IfOk result (λ v. v ≡ self.now) }
+    {
+        Ok(StructVector {
+            count: self.count,
+            paths: copied_paths(alloc, &self.paths)?,
+            columns: copied_columns(alloc, &self.columns)?,
+        })
+    }
+
     /// The attribute's column, or `None` where no attribute has that path.
     pub fn column(&self, p: &Path) -> Option<&Column>
         ensures column { option_copied result ≡ lookup (bytes_eq p.now) self.now.attributes }
@@ -99,6 +154,28 @@ impl StructVector {
         }
         None
     }
+}
+
+/// The same paths again.
+fn copied_paths(alloc: Global, paths: &Vec<Path>) -> Result<Vec<Path>, NoMemory>
+    ensures { IfOk result (λ copies. copies.items ≡ paths.now.items) }
+{
+    let mut copies = Vec::with_capacity(alloc, paths.len())?;
+    for path in paths {
+        copies.push(path.copied(alloc)?)?;
+    }
+    Ok(copies)
+}
+
+/// The same columns again, each kept in the same way.
+fn copied_columns(alloc: Global, columns: &Vec<Column>) -> Result<Vec<Column>, NoMemory>
+    ensures { IfOk result (λ copies. copies.items ≡ columns.now.items) }
+{
+    let mut copies = Vec::with_capacity(alloc, columns.len())?;
+    for column in columns {
+        copies.push(column.copied(alloc)?)?;
+    }
+    Ok(copies)
 }
 
 /// The first attribute whose column has another length, counted from 0.
