@@ -1,0 +1,179 @@
+-- The forms of names and of paths.
+use Rattle.std.proofs.Common.{◌≡◌, ℕ, ◌≤◌, ◌<◌, ◌*◌, Bool, true, false, not, ◌||◌, List, [], ◌∷◌, ◌++◌, length, refl, ap, sym, ◌∙◌, subst, arith, append-nil}
+use Rattle.std.specs.Prelude.{Some, None}
+use Rattle.std.specs.List.{All, list_all, slice_split, prefix_len}
+use Rattle.std.specs.Str.{IsAscii, IsUtf8}
+use Rattle.std.proofs.lemmas.Bool.{and_parts, and_from, leb-true, le-leb, or_left}
+use Rattle.std.proofs.lemmas.Bool.Decides.{nat_tests}
+use Rattle.std.proofs.lemmas.List.{length-append}
+use Rattle.std.proofs.lemmas.List.Splits.{slice_split_none, slice_split_at}
+use Rattle.std.proofs.lemmas.Slice.Eq.{bytes_eq-Decides}
+use Rattle.std.proofs.lemmas.Str.{IsUtf8-from_ascii}
+use Rattle.std.proofs.lemmas.Str.Ascii.{IsAscii-nil, IsAscii-cons}
+use Rattle.key_paths.specs.Paths.{is_dot, begins_segment, is_in_segment, is_segment, joined, path_text, IsPath, Refuses}
+use Rattle.key_paths.specs.declared.refusal.PathKind.{PathKind}
+use Rattle.key_paths.specs.declared.refusal.PathRefusal.{PathRefusal}
+use Rattle.key_paths.specs.declared.refusal.PathRefusal.TheVariants.{Bad}
+use Rattle.voodoo_text.specs.Canonical.{Bytes}
+use Rattle.voodoo_text.specs.Values.{begins_name, name_of, path_of, is_path, nonempty_tail, segments_of}
+use Rattle.voodoo_text.proofs.Words.{IsWord, is_in_word, all_weaker, all_both, none_passes}
+
+-- ---- names
+begins_inside : (b : ℕ) → begins_segment b ≡ true → is_in_segment b ≡ true
+begins_inside b h = grind (arith, nat_tests)
+
+pub segment_inside : (w : Bytes) → is_segment w ≡ true → list_all is_in_segment w ≡ true
+segment_inside [] h = refl
+segment_inside (b ∷ w) h =
+    let first = and_parts (begins_segment b) _ h in
+    let others = and_parts (list_all is_in_segment w) _ first.1 in
+    and_from (is_in_segment b) (list_all is_in_segment w) (begins_inside b first.0) others.0
+
+pub segment_some : (w : Bytes) → is_segment w ≡ true → 1 ≤ length w
+segment_some [] h = cc
+segment_some (b ∷ w) h = omega arith
+
+pub segment_short : (w : Bytes) → is_segment w ≡ true → length w ≤ 64
+segment_short [] h = omega arith
+segment_short (b ∷ w) h =
+    let first = and_parts (begins_segment b) _ h in
+    let others = and_parts (list_all is_in_segment w) _ first.1 in
+    let few = leb-true (length w) 63 others.1 in
+    omega arith
+
+inside_word : (b : ℕ) → is_in_segment b ≡ true → is_in_word b ≡ true
+inside_word b h = grind (arith, nat_tests)
+
+pub name_word : (w : Bytes) → is_segment w ≡ true → IsWord w
+name_word w h = record { some = segment_some w h; inside = all_weaker is_in_segment is_in_word inside_word w (segment_inside w h) }
+
+-- ---- paths
+-- the bytes of a path
+abbrev pub is_in_path : ℕ → Bool
+is_in_path b = is_in_segment b || is_dot b
+
+path_small : (b : ℕ) → is_in_path b ≡ true → b < 128
+path_small b h = grind (arith, nat_tests)
+
+pub path_ascii : (w : Bytes) → list_all is_in_path w ≡ true → IsAscii w
+path_ascii [] h = IsAscii-nil
+path_ascii (b ∷ w) h =
+    let both = and_parts (is_in_path b) (list_all is_in_path w) h in
+    IsAscii-cons b w (path_small b both.0) (path_ascii w both.1)
+
+inside_path : (b : ℕ) → is_in_segment b ≡ true → is_in_path b ≡ true
+inside_path b h = or_left (is_in_segment b) (is_dot b) h
+
+path_word_byte : (b : ℕ) → is_in_path b ≡ true → is_in_word b ≡ true
+path_word_byte b h = grind (arith, nat_tests)
+
+segment_in_path : (w : Bytes) → is_segment w ≡ true → list_all is_in_path w ≡ true
+segment_in_path w h = all_weaker is_in_segment is_in_path inside_path w (segment_inside w h)
+
+pub name_utf8 : (w : Bytes) → is_segment w ≡ true → IsUtf8 w
+name_utf8 w h = IsUtf8-from_ascii w (path_ascii w (segment_in_path w h))
+
+joined_in_path : (segments : List Bytes) → list_all is_segment segments ≡ true → list_all is_in_path (joined segments) ≡ true
+joined_in_path [] h = refl
+joined_in_path (s ∷ segments) h =
+    let both = and_parts (is_segment s) (list_all is_segment segments) h in
+    all_both is_in_path s (joined segments) (segment_in_path s both.0) (joined_in_path segments both.1)
+
+joined_short : (segments : List Bytes) → list_all is_segment segments ≡ true → length (joined segments) ≤ 65 * length segments
+joined_short [] h = omega arith
+joined_short (s ∷ segments) h =
+    let both = and_parts (is_segment s) (list_all is_segment segments) h in
+    omega (arith, segment_short s both.0, joined_short segments both.1, length-append s (joined segments))
+
+-- a path has a dot first, its bytes alone, and at most 520 of them
+pub record PathForm (w : Bytes) : Type 0 where
+  pub rest : Bytes
+  pub dot : w ≡ 46 ∷ rest
+  pub inside : list_all is_in_path w ≡ true
+  pub short : length w ≤ 520
+
+text_form : (segments : List Bytes) → length segments ≤ 8 → list_all is_segment segments ≡ true → PathForm (path_text segments)
+text_form [] few h = record { rest = []; dot = refl; inside = refl; short = omega arith }
+text_form (s ∷ segments) few h =
+    record { rest = s ++ joined segments; dot = refl; inside = joined_in_path (s ∷ segments) h; short = omega (arith, joined_short (s ∷ segments) h) }
+
+pub path_form : (w : Bytes) → IsPath w → PathForm w
+path_form w is = subst PathForm (sym is.is) (text_form is.segments is.few is.each)
+
+pub path_word : (w : Bytes) → IsPath w → IsWord w
+path_word w is =
+    let form = path_form w is in
+    record { some = rw (form.dot) (omega arith); inside = all_weaker is_in_path is_in_word path_word_byte w form.inside }
+
+pub path_utf8 : (w : Bytes) → IsPath w → IsUtf8 w
+path_utf8 w is = IsUtf8-from_ascii w (path_ascii w (path_form w is).inside)
+
+-- ---- whether a word is a path
+pub path_from_test : (w : Bytes) → is_path w ≡ true → IsPath w
+path_from_test w h =
+    let few = and_parts _ _ h in
+    let each = and_parts _ _ few.1 in
+    record { segments = segments_of w; few = leb-true (length (segments_of w)) 8 few.0; each = each.0; is = (bytes_eq-Decides w (path_text (segments_of w))).0 each.1 }
+
+no_dot : (b : ℕ) → is_in_segment b ≡ true → not (is_dot b) ≡ true
+no_dot b h = grind (arith, nat_tests)
+
+no_dots : (w : Bytes) → is_segment w ≡ true → All (λ b. is_dot b ≡ false) w
+no_dots w h = none_passes is_dot w (all_weaker is_in_segment (λ b. not (is_dot b)) no_dot w (segment_inside w h))
+
+split_joined : (s : Bytes) (segments : List Bytes) → list_all is_segment (s ∷ segments) ≡ true → slice_split is_dot (s ++ joined segments) ≡ s ∷ segments
+split_joined s [] h =
+    let both = and_parts (is_segment s) true h in
+    ap (slice_split is_dot) (append-nil s) ∙ slice_split_none is_dot s (no_dots s both.0)
+split_joined s (t ∷ segments) h =
+    let both = and_parts (is_segment s) (list_all is_segment (t ∷ segments)) h in
+    slice_split_at is_dot s 46 (t ++ joined segments) (no_dots s both.0) refl ∙ ap (λ (others : List Bytes). s ∷ others) (split_joined t segments both.1)
+
+tail_of_segments : (s : Bytes) (segments : List Bytes) → is_segment s ≡ true → nonempty_tail ([] ∷ s ∷ segments) ≡ s ∷ segments
+tail_of_segments [] segments h = cc
+tail_of_segments (b ∷ s) segments h = refl
+
+segments_back : (segments : List Bytes) → list_all is_segment segments ≡ true → segments_of (path_text segments) ≡ segments
+segments_back [] h = refl
+segments_back (s ∷ segments) h =
+    let both = and_parts (is_segment s) (list_all is_segment segments) h in
+    ap (λ (parts : List Bytes). nonempty_tail ([] ∷ parts)) (split_joined s segments h) ∙ tail_of_segments s segments both.0
+
+test_of_text : (segments : List Bytes) → length segments ≤ 8 → list_all is_segment segments ≡ true → is_path (path_text segments) ≡ true
+test_of_text segments few h =
+    rw (segments_back segments h)
+    (and_from _ _ (le-leb (length segments) 8 few) (and_from _ _ h ((bytes_eq-Decides (path_text segments) (path_text segments)).1 refl)))
+
+pub test_from_path : (w : Bytes) → IsPath w → is_path w ≡ true
+test_from_path w is = rw (is.is) (test_of_text is.segments is.few is.each)
+
+-- ---- what a word spells
+pub name_read : (w : Bytes) → is_segment w ≡ true → name_of w ≡ Some w
+name_read w h = rw h refl
+
+pub path_read : (w : Bytes) → IsPath w → path_of w ≡ Some w
+path_read w is = rw (test_from_path w is) refl
+
+pub no_path : (w : Bytes) → (IsPath w → ⊥) → path_of w ≡ None
+no_path w none = elim (is_path w) as (λ t. is_path w ≡ t → path_of w ≡ None) [ true ↦ λ h. absurd (none (path_from_test w h)) | false ↦ λ h. rw h refl ] refl
+
+-- a name in front of a path
+pub name_before : (name path : Bytes) → is_segment name ≡ true → IsPath path → prefix_len is_in_segment (name ++ path) ≡ length name
+name_before name path h is =
+    let form = path_form path is in
+    rw (form.dot) (ends name form.rest (segment_inside name h))
+  where
+    ends : (w rest : Bytes) → list_all is_in_segment w ≡ true → prefix_len is_in_segment (w ++ 46 ∷ rest) ≡ length w
+    ends [] rest h = refl
+    ends (b ∷ w) rest h =
+        let both = and_parts (is_in_segment b) (list_all is_in_segment w) h in
+        rw both.0 (omega (arith, ends w rest both.1))
+
+-- a text that is refused at a byte is no path
+pub refuted : (text : Bytes) (refusal : PathRefusal) (at : ℕ) (kind : PathKind) → refusal ≡ Bad at kind → Refuses text refusal → IsPath text → ⊥
+refuted text refusal at kind is h = let R : PathRefusal → Type 0 = Refuses text in (subst R is h).none
+
+-- a name begins as names do
+pub name_begins : (w : Bytes) → is_segment w ≡ true → begins_name w ≡ true
+name_begins [] h = cc
+name_begins (b ∷ w) h = (and_parts (begins_segment b) _ h).0

@@ -1,0 +1,8 @@
+//! The law of texts, stated once, as a contract.
+
+ghost use Rattle.voodoo_text.specs.Laws.{TextLaws};
+
+/// A text and its program decide each other.
+pub fn text_laws()
+    ensures { TextLaws }
+{}
