@@ -17,13 +17,13 @@
 
 use std::alloc::AllocError;
 
-pub mod argument;
+mod argument;
 pub mod laws;
-pub mod parts;
-pub mod printing;
-pub mod reading;
-pub mod stop;
-pub mod values;
+mod parts;
+mod printing;
+mod reading;
+mod stop;
+mod values;
 
 pub use printing::program_text;
 pub use reading::read_program;
