@@ -108,7 +108,7 @@ impl Column {
     /// The numbers, where they are kept in 64 bits and no slot is empty.
     pub fn narrow_slice(&self) -> Option<&[i64]>
         ensures { MatchOption result (self.now.form ≢ narrow)
-            (λ numbers. (self.now.form ≡ narrow) × (self.now.slots ≡ some_slots numbers.now)) }
+            (λ numbers. (self.now.form ≡ narrow) × (self.now.slots ≡ some_slots numbers.now) × (length numbers.now ≤ 2 ^ 22)) }
     {
         match &self.form {
             Form::Narrow(numbers) => Some(numbers.as_slice()),

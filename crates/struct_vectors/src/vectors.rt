@@ -147,8 +147,16 @@ impl StructVector {
         ensures column { option_copied result ≡ lookup (bytes_eq p.now) self.now.attributes }
         ensures shaped { IsShaped self.now }
     {
-        for (i, path) in self.paths.iter().enumerate() {
-            if p == path {
+        self.column_at(p.text())
+    }
+
+    /// The column of the attribute whose path has that text, or `None` where there is none.
+    pub fn column_at(&self, path: &str) -> Option<&Column>
+        ensures column { option_copied result ≡ lookup (bytes_eq path.now) self.now.attributes }
+        ensures shaped { IsShaped self.now }
+    {
+        for (i, p) in self.paths.iter().enumerate() {
+            if path == p.text() {
                 return Some(&self.columns[i]);
             }
         }

@@ -1,9 +1,0 @@
-use Rattle.std.proofs.Common.{◌≡◌, drop}
-use Rattle.std.specs.List.{zip}
-use Rattle.std.specs.Map.{lookup}
-use Rattle.std.specs.Str.{bytes_eq}
-use Rattle.struct_vectors.proofs.vectors.StructVector.column.Given as goal
-
-abbrev pub invariant-loop-i : goal.invariant-loop-i
-invariant-loop-i l =
-    lookup (bytes_eq l.p) (drop l.i (zip l.self-inside.paths.items l.self-inside.columns.items)) ≡ lookup (bytes_eq l.p) l.self.attributes
