@@ -1,55 +1,85 @@
 -- The program that adds up one column means its exact total.
-use Rattle.std.proofs.Common.{◌≡◌, ℕ, zero, suc, ◌-◌, ◌^◌, ◌<◌, ◌≤◌, min, ℤ, pos, List, [], ◌∷◌, map, take, Bool, true, false, ◌||◌, not, refl, ap, sym, ◌∙◌, length, get_or, arith, Some, None, Result, Ok, Err}
+use Rattle.std.proofs.Common.{◌≡◌, ℕ, zero, suc, ◌-◌, ◌*◌, ◌^◌, ◌<◌, ◌≤◌, min, ℤ, pos, negsuc, neg_ℤ, ◌≤ℤ◌, List, [], ◌∷◌, map, take, Bool, true, false, ◌||◌, not, if◌then◌else◌, refl, ap, sym, ◌∙◌, length, get_or, arith, nat_lt, Some, None, Result, Ok, Err}
 use Rattle.std.specs.Prelude.{FitsSigned, All, codes}
 use Rattle.std.specs.Int.{w64}
 use Rattle.std.specs.List.{list_any, range_with_len}
 use Rattle.std.proofs.Math.Dec.{eqb-suc-zero}
+use Rattle.std.proofs.lemmas.Int.{ints}
+use Rattle.std.proofs.lemmas.Bool.Decides.{nat_tests}
 use Rattle.std.proofs.lemmas.List.{length-map, take_all}
-use Rattle.std.proofs.lemmas.List.Elements.{All-nil, All-cons, All-map}
-use Rattle.std.proofs.lemmas.List.FromFn.{fill_by_all, length-map-range_with_len, get_or-map-range_with_len}
-use Rattle.voodoo_ops.specs.declared.op.Over.{Over}
+use Rattle.std.proofs.lemmas.List.Elements.{All-head, All-tail}
+use Rattle.std.proofs.lemmas.List.FromFn.{fill_by_all}
+use Rattle.std.proofs.lemmas.Option.{get_or_from_slice_get}
+use Rattle.control_vectors.specs.Slots.{Slot, Cell, fits_128, or_over, cells_of, all_slots, numbers}
+use Rattle.control_vectors.specs.Controls.{control_at, control_list}
+use Rattle.control_vectors.specs.Folds.{total_of, sum_of}
+use Rattle.control_vectors.specs.declared.Over.{Over}
+use Rattle.control_vectors.proofs.FoldLaws.{total_of-cons}
+use Rattle.control_vectors.proofs.SlotLaws.{all_slots-cells_of, numbers-map_Some}
+use Rattle.struct_vectors.specs.Columns.{some_slots}
+use Rattle.struct_vectors.proofs.ColumnLaws.{length-some_slots, length-control_slots, slice_get-control_slots}
 use Rattle.voodoo_ops.specs.declared.op.Op.TheVariants.{Persist}
-use Rattle.voodoo_ops.specs.declared.op.Statement.{Statement}
-use Rattle.voodoo_ops.specs.Slots.{Slot, Cell, and_more, all_ok, numbers, total_of, sum_of}
-use Rattle.voodoo_ops.specs.Paths.{Label}
-use Rattle.voodoo_ops.specs.Vectors.{Attribute, Vector, column, column_of, Env, env_of, nothing, put}
+use Rattle.voodoo_ops.specs.declared.op.FoldArgs.{FoldArgs}
+use Rattle.voodoo_ops.specs.Vectors.{Label, Attribute, Vector, Env, Named, column, column_of, nothing, put, tables}
 use Rattle.voodoo_ops.specs.Runs.{slot_eq, begins, differs, rest_of_run}
-use Rattle.voodoo_ops.specs.Operators.{control_at, ranged, zipped, padded, sum_cells, fold_sum}
-use Rattle.voodoo_ops.specs.Meaning.{Named, after_effect, then_run, run_from, shown, meaning}
-use Rattle.voodoo_ops.specs.Sums.{IsNarrowSlot, IsNarrowAttribute, IsNarrow, IsNarrowStore, statement, sum_statements, column_store, filled, total_slots, total_slot, sum_results, first_slot_of, SumLaw, SumLaws}
-use Rattle.voodoo_ops.proofs.Narrow.{sum_of-narrow}
-use Rattle.voodoo_ops.proofs.NeverOver.{control_zero}
+use Rattle.voodoo_ops.specs.Operators.{ranged, zipped, sum_cells, fold_sum}
+use Rattle.voodoo_ops.specs.Meaning.{after_effect, then_run, run_from, shown, meaning}
+use Rattle.voodoo_ops.specs.Check.{Outline, no_outline, limit_of}
+use Rattle.voodoo_ops.specs.Sums.{statement, zero_control, sum_statements, column_store, total_slots, total_slot, sum_results, first_slot_of, SumLaws}
+
+-- ---- totals of few narrow numbers fit 128 bits
+record Within (n : ℕ) (z : ℤ) : Type 0 where
+  pub low : neg_ℤ (pos (n * 2 ^ 63)) ≤ℤ z
+  pub high : z ≤ℤ pos (n * 2 ^ 63)
+
+total_within : (xs : List ℤ) → All (FitsSigned w64) xs → Within (length xs) (total_of xs)
+total_within [] h = record { low = omega (arith, ints); high = omega (arith, ints) }
+total_within (x ∷ xs) h =
+    let rest = total_within xs (All-tail (FitsSigned w64) x xs h) in
+    let here : FitsSigned w64 x = All-head (FitsSigned w64) x xs h in
+    record {
+      low = omega (arith, ints, rest.low, here, total_of-cons x xs);
+      high = omega (arith, ints, rest.high, here, total_of-cons x xs);
+    }
+
+fits : (n : ℕ) (z : ℤ) → n ≤ 2 ^ 32 → Within n z → fits_128 z ≡ true
+fits n (pos m) few h = let small : m < 2 ^ 127 = omega (arith, ints, h.high) in grind (arith, nat_tests)
+fits n (negsuc m) few h = let small : m < 2 ^ 127 = omega (arith, ints, h.low) in grind (arith, nat_tests)
+
+sum_of-narrow : (x : ℤ) (xs : List ℤ) → length (x ∷ xs) ≤ 2 ^ 22 → All (FitsSigned w64) (x ∷ xs) → sum_of (x ∷ xs) ≡ Ok (Some (total_of (x ∷ xs)))
+sum_of-narrow x xs few h =
+    let n : length (x ∷ xs) ≤ 2 ^ 32 = omega (arith, few) in
+    ap (λ (b : Bool). or_over (if b then Some (total_of (x ∷ xs)) else None)) (fits (length (x ∷ xs)) (total_of (x ∷ xs)) n (total_within (x ∷ xs) h))
 
 -- ---- one run
 abbrev one_run : List ℤ → List Bool
 one_run [] = []
 one_run (x ∷ rest) = true ∷ map (λ z. false) rest
 
-numbers-filled : (xs : List ℤ) → numbers (filled xs) ≡ xs
-numbers-filled [] = refl
-numbers-filled (x ∷ xs) = ap (λ l. x ∷ l) (numbers-filled xs)
-
-rest_of_run-filled : (xs : List ℤ) → rest_of_run (map (λ z. false) xs) (filled xs) ≡ filled xs
+rest_of_run-filled : (xs : List ℤ) → rest_of_run (map (λ z. false) xs) (some_slots xs) ≡ some_slots xs
 rest_of_run-filled [] = refl
 rest_of_run-filled (x ∷ xs) = ap (λ (l : List Slot). Some x ∷ l) (rest_of_run-filled xs)
 
-later_cells : (xs : List ℤ) → all_ok (sum_cells (map (λ z. false) xs) (filled xs)) ≡ Ok (map (λ z. None) xs)
+later_cells : (xs : List ℤ) → sum_cells (map (λ z. false) xs) (some_slots xs) ≡ cells_of (map (λ z. None) xs)
 later_cells [] = refl
-later_cells (x ∷ xs) = ap (and_more (Ok None)) (later_cells xs)
+later_cells (x ∷ xs) = ap (λ (l : List Cell). Ok None ∷ l) (later_cells xs)
 
-one_total : (xs : List ℤ) → length xs ≤ 2 ^ 22 → All (FitsSigned w64) xs → all_ok (sum_cells (one_run xs) (filled xs)) ≡ Ok (total_slots xs)
+one_total : (xs : List ℤ) → length xs ≤ 2 ^ 22 → All (FitsSigned w64) xs → sum_cells (one_run xs) (some_slots xs) ≡ cells_of (total_slots xs)
 one_total [] few h = refl
 one_total (x ∷ xs) few h =
-    let first : sum_of (numbers (Some x ∷ rest_of_run (map (λ z. false) xs) (filled xs))) ≡ Ok (Some (total_of (x ∷ xs))) =
-    ap (λ (l : List Slot). sum_of (numbers (Some x ∷ l))) (rest_of_run-filled xs) ∙ ap (λ (l : List ℤ). sum_of (x ∷ l)) (numbers-filled xs) ∙ sum_of-narrow x xs (omega (arith, few)) h in
-    ap (λ (c : Cell). and_more c (all_ok (sum_cells (map (λ z. false) xs) (filled xs)))) first ∙ ap (and_more (Ok (Some (total_of (x ∷ xs))))) (later_cells xs)
+    let first : sum_of (numbers (Some x ∷ rest_of_run (map (λ z. false) xs) (some_slots xs))) ≡ Ok (Some (total_of (x ∷ xs))) = ap (λ (l : List Slot). sum_of (numbers (Some x ∷ l))) (rest_of_run-filled xs) ∙ ap (λ (l : List ℤ). sum_of (x ∷ l)) (numbers-map_Some xs) ∙ sum_of-narrow x xs few h in
+    ap (λ (c : Cell). c ∷ sum_cells (map (λ z. false) xs) (some_slots xs)) first ∙ ap (λ (l : List Cell). Ok (Some (total_of (x ∷ xs))) ∷ l) (later_cells xs)
 
 -- ---- the zipped vector
 abbrev zeros : ℕ → List Slot
-zeros n = map (λ i. Some (control_at (pos 0) 0 0 1 i)) (range_with_len 0 n)
+zeros n = some_slots (control_list zero_control n)
+
+control_zero : (i : ℕ) → control_at zero_control i ≡ pos 0
+control_zero i = omega (arith, ints)
 
 get_or-zeros : (n i : ℕ) → i < n → get_or (zeros n) i None ≡ Some (pos 0)
-get_or-zeros n i h = get_or-map-range_with_len (λ i. Some (control_at (pos 0) 0 0 1 i)) 0 n i i None h (omega arith) ∙ ap (λ (z : ℤ). Some z) (control_zero i)
+get_or-zeros n i h =
+    get_or_from_slice_get (zeros n) i (Some (control_at zero_control i)) None (slice_get-control_slots zero_control n i h) ∙ ap (λ (z : ℤ). Some z) (control_zero i)
 
 same_slot : (x y : Slot) → x ≡ Some (pos 0) → y ≡ Some (pos 0) → not (slot_eq x y) ≡ false
 same_slot x y e f = rw (e, f) refl
@@ -75,37 +105,33 @@ one_run_is xs p = fill_by_all (begins ((p, zeros (length xs)) ∷ [])) (one_run 
     at (x ∷ l) (suc k) h =
         get_or-falses l k ∙ sym (ap (λ (b : Bool). b || list_any {X = Attribute} (λ t. differs t.1 (suc k)) ((p, zeros (suc (length l))) ∷ [])) (eqb-suc-zero k) ∙ ap (λ (b : Bool). b || false) (zeros_same (suc (length l)) k h))
 
-padded_all : (xs : List Slot) → padded (length xs) xs ≡ xs
-padded_all xs = sym (fill_by_all (λ i. get_or xs i None) xs (length xs) None refl (λ k h. refl))
-
 -- the column and the zeros beside it
 abbrev both : ℕ → List Slot → List Slot → Vector
 both n a b = record { len = n; attributes = (codes ".a", a) ∷ (codes ".run", b) ∷ [] }
 
 abbrev source : List ℤ → Vector
-source xs = column (codes ".a") (length xs) (filled xs)
+source xs = column (codes ".a") (length xs) (some_slots xs)
 
 abbrev runs : List ℤ → Vector
-runs xs = ranged (length xs) (codes ".run") (pos 0) 0 0 1
+runs xs = ranged (length xs) (codes ".run") zero_control
 
-zipped_is : (xs : List ℤ) → zipped (source xs) (runs xs) ≡ both (length xs) (filled xs) (zeros (length xs))
+zipped_is : (xs : List ℤ) → zipped (source xs) (runs xs) ≡ both (length xs) (some_slots xs) (zeros (length xs))
 zipped_is xs =
     let n = length xs in
     let shorter : min n n ≡ n = omega arith in
-    ap (λ k. both k (take k (filled xs)) (take k (zeros n))) shorter
-    ∙ ap (λ (a : List Slot). both n a (take n (zeros n))) (take_all n (filled xs) (omega (arith, length-map xs (λ z. Some z))))
-    ∙ ap (λ (b : List Slot). both n (filled xs) b) (take_all n (zeros n) (omega (arith, length-map-range_with_len (λ i. Some (control_at (pos 0) 0 0 1 i)) 0 n)))
+    ap (λ k. both k (take k (some_slots xs)) (take k (zeros n))) shorter
+    ∙ ap (λ (a : List Slot). both n a (take n (zeros n))) (take_all n (some_slots xs) (omega (arith, length-some_slots xs)))
+    ∙ ap (λ (b : List Slot). both n (some_slots xs) b) (take_all n (zeros n) (omega (arith, length-control_slots zero_control n)))
 
-padded_filled : (xs : List ℤ) → padded (length xs) (filled xs) ≡ filled xs
-padded_filled xs = ap (λ n. padded n (filled xs)) (sym (length-map xs (λ z. Some z))) ∙ padded_all (filled xs)
+abbrev fold_args : FoldArgs
+fold_args = record { a = codes "z"; val = codes ".a"; run = codes ".run"; out = codes ".sum" }
 
-summed : (xs : List ℤ) → length xs ≤ 2 ^ 22 → All (FitsSigned w64) xs → fold_sum (both (length xs) (filled xs) (zeros (length xs))) (codes ".a") (codes ".run") (codes ".sum") ≡ Ok (column (codes ".sum") (length xs) (total_slots xs))
+summed : (xs : List ℤ) → length xs ≤ 2 ^ 22 → All (FitsSigned w64) xs → fold_sum (both (length xs) (some_slots xs) (zeros (length xs))) fold_args ≡ Ok (column (codes ".sum") (length xs) (total_slots xs))
 summed xs few h =
     let n = length xs in
-    let marks = map (begins ((codes ".run", zeros n) ∷ [])) (range_with_len 0 n) in
-    ap (λ (l : List Slot). column_of (codes ".sum") n (all_ok (sum_cells marks l))) (padded_filled xs)
-    ∙ ap (λ (m : List Bool). column_of (codes ".sum") n (all_ok (sum_cells m (filled xs)))) (sym (one_run_is xs (codes ".run")))
-    ∙ ap (column_of (codes ".sum") n) (one_total xs few h)
+    ap (λ (m : List Bool). column_of (codes ".sum") n (all_slots (sum_cells m (some_slots xs)))) (sym (one_run_is xs (codes ".run")))
+    ∙ ap (λ (l : List Cell). column_of (codes ".sum") n (all_slots l)) (one_total xs few h)
+    ∙ ap (column_of (codes ".sum") n) (all_slots-cells_of (total_slots xs))
 
 -- ---- the program
 abbrev named_out : Result Vector Over → Result Named Over
@@ -119,34 +145,36 @@ last_two store env (Ok v) = refl
 abbrev three_made : List ℤ → Env
 three_made xs = put (put (put nothing (codes "t") (source xs)) (codes "r") (runs xs)) (codes "z") (zipped (source xs) (runs xs))
 
-meant_of : (xs : List ℤ) → length xs ≤ 2 ^ 22 → All (FitsSigned w64) xs → meaning (env_of (column_store xs)) sum_statements ≡ Ok (sum_results xs)
+meant_of : (xs : List ℤ) → length xs ≤ 2 ^ 22 → All (FitsSigned w64) xs → meaning (tables (column_store xs)) sum_statements ≡ Ok (sum_results xs)
 meant_of xs few h =
-    last_two (env_of (column_store xs)) (three_made xs) (fold_sum (zipped (source xs) (runs xs)) (codes ".a") (codes ".run") (codes ".sum"))
-    ∙ ap (λ (v : Vector). named_out (fold_sum v (codes ".a") (codes ".run") (codes ".sum"))) (zipped_is xs)
+    last_two (tables (column_store xs)) (three_made xs) (fold_sum (zipped (source xs) (runs xs)) fold_args)
+    ∙ ap (λ (v : Vector). named_out (fold_sum v fold_args)) (zipped_is xs)
     ∙ ap named_out (summed xs few h)
 
 first_of_total : (xs : List ℤ) → first_slot_of (sum_results xs) ≡ total_slot xs
 first_of_total [] = refl
 first_of_total (x ∷ rest) = refl
 
-pub narrow_column : (xs : List ℤ) → length xs ≤ 2 ^ 22 → All (FitsSigned w64) xs → IsNarrowStore (column_store xs)
-narrow_column xs few h =
-    let slots : All IsNarrowSlot (filled xs) = All-map IsNarrowSlot (λ z. Some z) xs h in
-    let one : IsNarrow (source xs) = record { few = few; narrow = All-cons IsNarrowAttribute (codes ".a", filled xs) [] slots (All-nil IsNarrowAttribute) } in
-    All-cons (λ e. IsNarrow e.1) (codes "t", source xs) [] one (All-nil (λ e. IsNarrow e.1))
+-- ---- the check
+abbrev sum_shape : ℕ → List Outline
+sum_shape n =
+    record { len = n; paths = codes ".a" ∷ [] }
+    ∷ record { len = n; paths = codes ".run" ∷ [] }
+    ∷ record { len = min n n; paths = codes ".a" ∷ codes ".run" ∷ [] }
+    ∷ record { len = min n n; paths = codes ".sum" ∷ [] }
+    ∷ no_outline ∷ []
+
+short_is : (n : ℕ) → n ≤ 2 ^ 22 → nat_lt (2 ^ 22) n ≡ false
+short_is n h = grind (arith, nat_tests)
+
+small_of : (n : ℕ) → n ≤ 2 ^ 22 → limit_of (sum_shape n) ≡ None
+small_of n h = rw (short_is n h, short_is (min n n) (omega arith)) refl
 
 pub sum_laws : SumLaws
 sum_laws numbers few h = record {
-  form = (tt, (refl, refl, refl, refl, tt), tt, tt, tt);
+  shape = sum_shape (length numbers);
   checked = refl;
-  narrow = narrow_column numbers few h;
+  small = small_of (length numbers) few;
   meant = meant_of numbers few h;
   first = first_of_total numbers;
 }
-
--- the slot that the run of the program gives is the total
-pub total_found : (xs : List ℤ) (program : List Statement) (store made : Named) (slot : Slot) → SumLaw xs → store ≡ column_store xs → program ≡ sum_statements → meaning (env_of store) program ≡ Ok made → slot ≡ first_slot_of made → slot ≡ total_slot xs
-total_found xs program store made slot law s p run first =
-    let meant : meaning (env_of store) program ≡ Ok (sum_results xs) = rw (s, p) law.meant in
-    let same : made ≡ sum_results xs = cc in
-    first ∙ ap first_slot_of same ∙ law.first

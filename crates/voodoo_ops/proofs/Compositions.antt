@@ -1,10 +1,9 @@
 -- Programs compose, and statements leave other names alone.
 use Rattle.std.proofs.Common.{◌≡◌, List, [], ◌∷◌, ◌++◌, Bool, true, false, refl, sym, ap, ◌∙◌, Option, Some, None, Result, Ok, Err, if◌then◌else◌}
 use Rattle.std.specs.Str.{bytes_eq}
-use Rattle.voodoo_ops.specs.declared.op.Over.{Over}
+use Rattle.control_vectors.specs.declared.Over.{Over}
 use Rattle.voodoo_ops.specs.declared.op.Statement.{Statement}
-use Rattle.voodoo_ops.specs.Paths.{Label}
-use Rattle.voodoo_ops.specs.Vectors.{Vector, Env, put}
+use Rattle.voodoo_ops.specs.Vectors.{Label, Vector, Env, put}
 use Rattle.voodoo_ops.specs.Meaning.{Run, effect, after_effect, step, then_run, run_from}
 use Rattle.voodoo_ops.specs.Laws.{Avoids, MeaningLaws}
 
@@ -22,13 +21,13 @@ run_from-append store (s ∷ a) b env =
     then_same (step store env s.name s.op) _ _ (λ e. run_from-append store a b e)
     ∙ sym (then_then (step store env s.name s.op) (run_from store a) (run_from store b))
 
-pub put_other : (env : Env) (n m : Label) (v : Vector) → bytes_eq m n ≡ false → put env n v m ≡ env m
-put_other env n m v e = ap (λ (b : Bool). if b then v else env m) e
+pub put_other : (env : Env) (n m : Label) (v : Vector) → bytes_eq n m ≡ false → put env n v m ≡ env m
+put_other env n m v e = ap (λ (b : Bool). if b then Some v else env m) e
 
-pub put_same : (env : Env) (n m : Label) (v : Vector) → bytes_eq m n ≡ true → put env n v m ≡ v
-put_same env n m v e = ap (λ (b : Bool). if b then v else env m) e
+pub put_same : (env : Env) (n m : Label) (v : Vector) → bytes_eq n m ≡ true → put env n v m ≡ Some v
+put_same env n m v e = ap (λ (b : Bool). if b then Some v else env m) e
 
-effect_frame : (env after : Env) (n m : Label) (r : Option (Result Vector Over)) → bytes_eq m n ≡ false → after_effect env n r ≡ Ok after → after m ≡ env m
+effect_frame : (env after : Env) (n m : Label) (r : Option (Result Vector Over)) → bytes_eq n m ≡ false → after_effect env n r ≡ Ok after → after m ≡ env m
 effect_frame env after n m None other e = let same : env ≡ after = cc in ap (λ (f : Env). f m) (sym same)
 effect_frame env after n m (Some (Err o)) other e = absurd cc
 effect_frame env after n m (Some (Ok v)) other e =

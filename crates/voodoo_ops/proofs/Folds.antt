@@ -1,151 +1,103 @@
--- Folds from the last place to the first.
-use Rattle.std.proofs.Common.{◌≡◌, ℕ, zero, suc, ◌+◌, ◌<◌, ◌≤◌, ℤ, pos, ◌+ℤ◌, List, [], ◌∷◌, Bool, true, false, refl, ap, sym, ◌∙◌, length, drop, set, get_or, replicate, arith, Some, None, Ok, Err}
+-- The totals of runs.
+use Rattle.std.proofs.Common.{◌≡◌, ℕ, zero, suc, ◌+◌, ◌<◌, ◌≤◌, ℤ, pos, ◌+ℤ◌, Bool, true, false, List, [], ◌∷◌, length, drop, get_or, refl, sym, ap, ◌∙◌, arith, Some, None, Ok}
 use Rattle.std.specs.List.{fold}
-use Rattle.std.proofs.lemmas.Int.{ints}
-use Rattle.std.proofs.lemmas.List.{drop_more, drop_all, length-set, length-replicate, drop-set, get_or-set_other, get_or-replicate}
-use Rattle.std.proofs.lemmas.List.FromFn.{get_or-map-range_with_len, length-map-range_with_len}
-use Rattle.voodoo_ops.specs.declared.op.Over.{Over}
-use Rattle.voodoo_ops.specs.Slots.{Slot, Cell, Slots, over, and_more, all_ok, total_of, sum_of, numbers}
-use Rattle.voodoo_ops.specs.Totals.{Sum, plus_slot, slot_of_sum}
-use Rattle.voodoo_ops.specs.declared.op.Stop.{Stop}
-use Rattle.voodoo_ops.specs.declared.op.Stop.TheVariants.{NoMemory, Overflow}
-use Rattle.voodoo_ops.specs.Stops.{StopsAt}
-use Rattle.voodoo_ops.specs.Paths.{Label}
-use Rattle.voodoo_ops.specs.Vectors.{Vector, slots_of, column, column_of}
-use Rattle.voodoo_ops.specs.Runs.{begins, below, run_marks, rest_of_run}
-use Rattle.voodoo_ops.specs.Operators.{padded, sum_cell, sum_cells, fold_sum}
+use Rattle.std.proofs.lemmas.List.{drop_more, drop_all}
+use Rattle.control_vectors.specs.Slots.{Slot, Cell, numbers}
+use Rattle.control_vectors.specs.Sums.{Sum}
+use Rattle.control_vectors.specs.Folds.{total_of, sum_of, fold_slots}
+use Rattle.control_vectors.specs.declared.FoldKind.TheVariants as kind
+use Rattle.voodoo_ops.specs.Runs.{rest_of_run}
+use Rattle.voodoo_ops.specs.Operators.{sum_cell, sum_cells}
+use Rattle.voodoo_ops.specs.Listing.{CellAt, run_from, plus_slot, sum_slot}
 
--- ---- totals
-fold_plus : (a : ℤ) (xs : List ℤ) → fold ◌+ℤ◌ a xs ≡ a +ℤ total_of xs
-fold_plus a [] = omega (arith, ints)
-fold_plus a (x ∷ xs) = fold_plus (a +ℤ x) xs ∙ omega (arith, ints, fold_plus (pos 0 +ℤ x) xs)
+pub length_sum_cells : (marks : List Bool) (xs : List Slot) → length marks ≡ length xs → length (sum_cells marks xs) ≡ length xs
+length_sum_cells [] xs e = e
+length_sum_cells (m ∷ marks) [] e = refl
+length_sum_cells (m ∷ marks) (x ∷ xs) e = ap suc (length_sum_cells marks xs (omega (arith, e)))
 
--- one more number in front
-pub total_of-cons : (x : ℤ) (xs : List ℤ) → total_of (x ∷ xs) ≡ x +ℤ total_of xs
-total_of-cons x xs = fold_plus (pos 0 +ℤ x) xs ∙ omega (arith, ints)
+sum_cells_at : (marks : List Bool) (xs : List Slot) (i : ℕ) → length marks ≡ length xs → i < length xs → CellAt (sum_cells marks xs) i (sum_cell (get_or marks i false) (run_from marks xs i))
+sum_cells_at [] xs i e h = absurd (omega (arith, e))
+sum_cells_at (m ∷ marks) [] i e h = absurd (omega arith)
+sum_cells_at (m ∷ marks) (x ∷ xs) zero e h = refl
+sum_cells_at (m ∷ marks) (x ∷ xs) (suc i) e h =
+    let next : suc i + 1 ≡ suc (i + 1) = omega arith in rw next (sum_cells_at marks xs i (omega (arith, e)) (omega arith))
 
--- a sum that adds these numbers
-pub record Adds (s : Sum) (xs : List ℤ) : Type 0 where
-  pub value : s.value ≡ total_of xs
-  pub terms : s.terms ≡ length xs
+pub cell_at_mark : (marks : List Bool) (xs : List Slot) (i : ℕ) (r : Cell) → length marks ≡ length xs → i < length xs → get_or marks i false ≡ true → r ≡ fold_slots kind.Sum (run_from marks xs i) → CellAt (sum_cells marks xs) i r
+cell_at_mark marks xs i r e h on is =
+    sum_cells_at marks xs i e h ∙ ap (λ (m : Bool). Some (sum_cell m (run_from marks xs i))) on ∙ ap (λ (c : Cell). Some c) (sym is)
 
-pub adds_nothing : (s : Sum) → s ≡ record { value = pos 0; terms = 0 } → Adds s []
-adds_nothing s e = rw e (record { value = refl; terms = refl })
+pub cell_elsewhere : (marks : List Bool) (xs : List Slot) (i : ℕ) → length marks ≡ length xs → i < length xs → get_or marks i false ≡ false → CellAt (sum_cells marks xs) i (Ok None)
+cell_elsewhere marks xs i e h off = sum_cells_at marks xs i e h ∙ ap (λ (m : Bool). Some (sum_cell m (run_from marks xs i))) off
 
-pub adds_more : (s : Sum) (x : Slot) (xs : List Slot) → Adds s (numbers xs) → Adds (plus_slot s x) (numbers (x ∷ xs))
-adds_more s None xs h = h
-adds_more s (Some x) xs h = record {
-  value = omega (arith, ints, h.value, total_of-cons x (numbers xs));
-  terms = omega (arith, h.terms);
-}
+-- ---- a total that grows along a run
 
-pub adds_slot : (s : Sum) (xs : List ℤ) → Adds s xs → slot_of_sum s ≡ sum_of xs
-adds_slot s [] h = rw h.terms refl
-adds_slot s (x ∷ xs) h = rw (h.terms, h.value) refl
+abbrev pub rest_at : List Bool → List Slot → ℕ → List Slot
+rest_at marks xs i = rest_of_run (drop i marks) (drop i xs)
 
-terms_of : (s : Sum) (x : Slot) → (plus_slot s x).terms ≤ s.terms + 1
-terms_of s None = omega arith
-terms_of s (Some x) = omega arith
+-- the total of the slots before i, where the run goes on from i
+pub record Summing (marks : List Bool) (xs : List Slot) (from : ℕ) (total : Sum) (i : ℕ) : Type 0 where
+  pub low : from < i
+  pub high : i ≤ length xs
+  pub few : total.terms + from ≤ i
+  pub value : fold ◌+ℤ◌ total.value (numbers (rest_at marks xs i)) ≡ total_of (numbers (run_from marks xs from))
+  pub terms : total.terms + length (numbers (rest_at marks xs i)) ≡ length (numbers (run_from marks xs from))
 
--- ---- places
-pub length-padded : (n : ℕ) (xs : List Slot) → length (padded n xs) ≡ n
-length-padded n xs = length-map-range_with_len (λ i. get_or xs i None) 0 n
+value_more : (s : Sum) (x : Slot) (xs : List Slot) → fold ◌+ℤ◌ (plus_slot s x).value (numbers xs) ≡ fold ◌+ℤ◌ s.value (numbers (x ∷ xs))
+value_more s None xs = refl
+value_more s (Some x) xs = refl
 
-pub get_or-padded : (n : ℕ) (xs : List Slot) (i : ℕ) → i < n → get_or (padded n xs) i None ≡ get_or xs i None
-get_or-padded n xs i h = get_or-map-range_with_len (λ k. get_or xs k None) 0 n i i None h (omega arith)
+terms_more : (s : Sum) (x : Slot) (xs : List Slot) → (plus_slot s x).terms + length (numbers xs) ≡ s.terms + length (numbers (x ∷ xs))
+terms_more s None xs = refl
+terms_more s (Some x) xs = omega arith
 
--- what is Over from a place on is Over
-pub over_below : (marks : List Bool) (xs : List Slot) (j : ℕ) → length xs ≡ length marks → all_ok (sum_cells (drop j marks) (drop j xs)) ≡ Err over → all_ok (sum_cells marks xs) ≡ Err over
-over_below marks xs zero e h = h
-over_below [] xs (suc j) e h = absurd cc
-over_below (m ∷ marks) [] (suc j) e h = absurd (omega (arith, e))
-over_below (m ∷ marks) (x ∷ xs) (suc j) e h = and_over (sum_cell m (x ∷ rest_of_run marks xs)) (all_ok (sum_cells marks xs)) (over_below marks xs j (omega (arith, e)) h)
-  where
-    and_over : (c : Cell) (r : Slots) → r ≡ Err over → and_more c r ≡ Err over
-    and_over (Err f) r q = refl
-    and_over (Ok s) r q = ap (and_more (Ok s)) q
+terms_by_one : (s : Sum) (x : Slot) → (plus_slot s x).terms ≤ s.terms + 1
+terms_by_one s None = omega arith
+terms_by_one s (Some x) = omega arith
 
--- the totals of the places from i on, where the sum adds the run that goes on before i
-pub record Folding (marks : List Bool) (xs out : List Slot) (s : Sum) (i : ℕ) : Type 0 where
-  pub each : length out ≡ length marks
-  pub places : length xs ≡ length marks
-  pub within : i ≤ length marks
-  pub made : all_ok (sum_cells (drop i marks) (drop i xs)) ≡ Ok (drop i out)
-  pub left : (k : ℕ) → k < i → get_or out k None ≡ None
-  pub adds : Adds s (numbers (rest_of_run (drop i marks) (drop i xs)))
-  pub few : s.terms + i ≤ length marks
-
-pub folding_start : (marks : List Bool) (slots out : List Slot) (s : Sum) → out ≡ replicate (length marks) None → s ≡ record { value = pos 0; terms = 0 } → Folding marks (padded (length marks) slots) out s (length marks)
-folding_start marks slots out s o e =
-    let n = length marks in
-    let xs = padded n slots in
-    let each : length out ≡ n = ap length o ∙ length-replicate n None in
-    let none : drop n marks ≡ [] = drop_all n marks (omega arith) in
+pub summing_start : (marks : List Bool) (xs : List Slot) (from : ℕ) (empty total : Sum) (x : Slot) → from < length xs → empty ≡ record { value = pos 0; terms = 0 } → get_or xs from None ≡ x → total ≡ plus_slot empty x → Summing marks xs from total (from + 1)
+summing_start marks xs from empty total x h e is t =
+    let none : Sum = record { value = pos 0; terms = 0 } in
+    let now : total ≡ plus_slot none x = t ∙ ap (λ (s : Sum). plus_slot s x) e in
     record {
-      each = each;
-      places = length-padded n slots;
-      within = omega arith;
-      made = rw (none, drop_all n out (omega arith)) refl;
-      left = λ k h. ap (λ (l : List Slot). get_or l k None) o ∙ get_or-replicate n k None None h;
-      adds = rw none (adds_nothing s e);
-      few = omega (arith, ap (λ (t : Sum). t.terms) e);
+      low = omega arith;
+      high = omega arith;
+      few = omega (arith, ap (λ (s : Sum). s.terms) now, terms_by_one none x);
+      value = ap (λ (s : Sum). fold ◌+ℤ◌ s.value (numbers (rest_at marks xs (from + 1)))) now ∙ value_more none x (rest_at marks xs (from + 1)) ∙ ap (λ (y : Slot). total_of (numbers (y ∷ rest_at marks xs (from + 1)))) (sym is);
+      terms = ap (λ (s : Sum). s.terms + length (numbers (rest_at marks xs (from + 1)))) now ∙ terms_more none x (rest_at marks xs (from + 1)) ∙ (let zero_add : 0 + length (numbers (x ∷ rest_at marks xs (from + 1))) ≡ length (numbers (x ∷ rest_at marks xs (from + 1))) = omega arith in zero_add) ∙ ap (λ (y : Slot). length (numbers (y ∷ rest_at marks xs (from + 1)))) (sym is);
     }
 
--- one more place, where no run begins
-pub folding_on : (marks : List Bool) (xs out : List Slot) (s t : Sum) (i j : ℕ) (x : Slot) → j + 1 ≡ i → Folding marks xs out s i → x ≡ get_or xs j None → get_or marks j false ≡ false → t ≡ plus_slot s x → Folding marks xs out t j
-folding_on marks xs out s t i j x next h at off e =
-    let mark : drop j marks ≡ false ∷ drop i marks = drop_more marks j false (omega (arith, h.within)) ∙ ap (λ (b : Bool). b ∷ drop (j + 1) marks) off ∙ ap (λ (k : ℕ). false ∷ drop k marks) next in
-    let here : drop j xs ≡ x ∷ drop i xs = drop_more xs j None (omega (arith, h.within, h.places)) ∙ ap (λ (y : Slot). y ∷ drop (j + 1) xs) (sym at) ∙ ap (λ (k : ℕ). x ∷ drop k xs) next in
-    let blank : drop j out ≡ None ∷ drop i out = drop_more out j None (omega (arith, h.within, h.each)) ∙ ap (λ (y : Slot). y ∷ drop (j + 1) out) (h.left j (omega arith)) ∙ ap (λ (k : ℕ). None ∷ drop k out) next in
+pub summing_more : (marks : List Bool) (xs : List Slot) (from i : ℕ) (total more : Sum) (x : Slot) → length marks ≡ length xs → i < length xs → get_or marks i false ≡ false → get_or xs i None ≡ x → more ≡ plus_slot total x → Summing marks xs from total i → Summing marks xs from more (i + 1)
+summing_more marks xs from i total more x e h off is m s =
+    let mark : drop i marks ≡ false ∷ drop (i + 1) marks = drop_more marks i false (omega (arith, e)) ∙ ap (λ (b : Bool). b ∷ drop (i + 1) marks) off in
+    let here : drop i xs ≡ x ∷ drop (i + 1) xs = drop_more xs i None h ∙ ap (λ (y : Slot). y ∷ drop (i + 1) xs) is in
+    let rest : rest_at marks xs i ≡ x ∷ rest_at marks xs (i + 1) = rw (mark, here) refl in
     record {
-      each = h.each;
-      places = h.places;
-      within = omega (arith, h.within);
-      made = rw (mark, here, blank) (ap (and_more (Ok None)) h.made);
-      left = λ k l. h.left k (omega arith);
-      adds = rw (mark, here, e) (adds_more s x (rest_of_run (drop i marks) (drop i xs)) h.adds);
-      few = omega (arith, h.few, terms_of s x, ap (λ (u : Sum). u.terms) e);
+      low = omega (arith, s.low);
+      high = omega arith;
+      few = omega (arith, s.few, ap (λ (t : Sum). t.terms) m, terms_by_one total x);
+      value = ap (λ (t : Sum). fold ◌+ℤ◌ t.value (numbers (rest_at marks xs (i + 1)))) m ∙ value_more total x (rest_at marks xs (i + 1)) ∙ ap (λ (l : List Slot). fold ◌+ℤ◌ total.value (numbers l)) (sym rest) ∙ s.value;
+      terms = ap (λ (t : Sum). t.terms + length (numbers (rest_at marks xs (i + 1)))) m ∙ terms_more total x (rest_at marks xs (i + 1)) ∙ ap (λ (l : List Slot). total.terms + length (numbers l)) (sym rest) ∙ s.terms;
     }
 
--- the total of a run, at the place where it begins
-pub run_total : (marks : List Bool) (xs out : List Slot) (s t : Sum) (i j : ℕ) (x : Slot) → j + 1 ≡ i → Folding marks xs out s i → x ≡ get_or xs j None → get_or marks j false ≡ true → t ≡ plus_slot s x → all_ok (sum_cells (drop j marks) (drop j xs)) ≡ and_more (slot_of_sum t) (Ok (drop i out))
-run_total marks xs out s t i j x next h at on e =
-    let mark : drop j marks ≡ true ∷ drop i marks = drop_more marks j false (omega (arith, h.within)) ∙ ap (λ (b : Bool). b ∷ drop (j + 1) marks) on ∙ ap (λ (k : ℕ). true ∷ drop k marks) next in
-    let here : drop j xs ≡ x ∷ drop i xs = drop_more xs j None (omega (arith, h.within, h.places)) ∙ ap (λ (y : Slot). y ∷ drop (j + 1) xs) (sym at) ∙ ap (λ (k : ℕ). x ∷ drop k xs) next in
-    let ns = numbers (x ∷ rest_of_run (drop i marks) (drop i xs)) in
-    let total : slot_of_sum t ≡ sum_of ns = adds_slot t ns (rw e (adds_more s x (rest_of_run (drop i marks) (drop i xs)) h.adds)) in
-    rw (mark, here, total, h.made) refl
+rest_past : (marks : List Bool) (xs : List Slot) (i : ℕ) → length marks ≡ length xs → length xs ≤ i → rest_at marks xs i ≡ []
+rest_past marks xs i e h = rw (drop_all i marks (omega (arith, e))) refl
 
--- one more place, where a run begins
-pub folding_mark : (marks : List Bool) (xs out : List Slot) (s t u : Sum) (i j : ℕ) (x v : Slot) → j + 1 ≡ i → Folding marks xs out s i → x ≡ get_or xs j None → get_or marks j false ≡ true → t ≡ plus_slot s x → slot_of_sum t ≡ Ok v → u ≡ record { value = pos 0; terms = 0 } → Folding marks xs (set out j v) u j
-folding_mark marks xs out s t u i j x v next h at on e total f =
-    let mark : drop j marks ≡ true ∷ drop i marks = drop_more marks j false (omega (arith, h.within)) ∙ ap (λ (b : Bool). b ∷ drop (j + 1) marks) on ∙ ap (λ (k : ℕ). true ∷ drop k marks) next in
-    let kept : drop j (set out j v) ≡ v ∷ drop i out = drop-set out j v (omega (arith, h.within, h.each)) ∙ ap (λ (k : ℕ). v ∷ drop k out) next in
-    record {
-      each = length-set out j v ∙ h.each;
-      places = h.places;
-      within = omega (arith, h.within);
-      made = run_total marks xs out s t i j x next h at on e ∙ ap (λ (c : Cell). and_more c (Ok (drop i out))) total ∙ ap (λ (l : List Slot). Ok l) (sym kept);
-      left = λ k l. get_or-set_other out j k v None (omega arith) ∙ h.left k (omega arith);
-      adds = rw mark (adds_nothing u f);
-      few = omega (arith, h.within, ap (λ (q : Sum). q.terms) f);
-    }
+rest_mark : (marks : List Bool) (xs : List Slot) (i : ℕ) → i < length marks → get_or marks i false ≡ true → rest_at marks xs i ≡ []
+rest_mark marks xs i h on =
+    let mark : drop i marks ≡ true ∷ drop (i + 1) marks = drop_more marks i false h ∙ ap (λ (b : Bool). b ∷ drop (i + 1) marks) on in rw mark refl
 
--- a total that is Over
-pub folding_over : (marks : List Bool) (xs out : List Slot) (s t : Sum) (i j : ℕ) (x : Slot) (o : Over) → j + 1 ≡ i → Folding marks xs out s i → x ≡ get_or xs j None → get_or marks j false ≡ true → t ≡ plus_slot s x → slot_of_sum t ≡ Err o → all_ok (sum_cells marks xs) ≡ Err over
-folding_over marks xs out s t i j x o next h at on e total =
-    over_below marks xs j h.places (run_total marks xs out s t i j x next h at on e ∙ ap (λ (c : Cell). and_more c (Ok (drop i out))) total)
+sum_of_all : (s : Sum) (ns : List ℤ) → s.value ≡ total_of ns → s.terms ≡ length ns → sum_slot s ≡ sum_of ns
+sum_of_all s [] v t = rw t refl
+sum_of_all s (x ∷ ns) v t = rw (t, v) refl
 
--- ---- the vector of the totals
-pub fold_made : (v : Vector) (val run out : Label) (marks : List Bool) (slots : List Slot) → marks ≡ run_marks v run → slots ≡ slots_of v.attributes val → fold_sum v val run out ≡ column_of out v.len (all_ok (sum_cells marks (padded (length marks) slots)))
-fold_made v val run out marks slots m s =
-    let n : length marks ≡ v.len = ap length m ∙ length-map-range_with_len (begins (below run v.attributes)) 0 v.len in
-    rw (n, m, s) refl
+summing_end : (marks : List Bool) (xs : List Slot) (from i : ℕ) (total : Sum) → rest_at marks xs i ≡ [] → Summing marks xs from total i → sum_slot total ≡ fold_slots kind.Sum (run_from marks xs from)
+summing_end marks xs from i total none s =
+    let v = ap (λ (l : List Slot). fold ◌+ℤ◌ total.value (numbers l)) (sym none) ∙ s.value in
+    let t : total.terms + 0 ≡ length (numbers (run_from marks xs from)) = ap (λ (l : List Slot). total.terms + length (numbers l)) (sym none) ∙ s.terms in
+    sum_of_all total (numbers (run_from marks xs from)) v (omega (arith, t))
 
--- where the totals stop, the vector does
-pub fold_stopped : (e : Stop) (r : Slots) (out : Label) (n : ℕ) → StopsAt e r → StopsAt e (column_of out n r)
-fold_stopped NoMemory r out n h = tt
-fold_stopped Overflow r out n h = ap (column_of out n) h
+pub summing_past : (marks : List Bool) (xs : List Slot) (from i : ℕ) (total : Sum) → length marks ≡ length xs → length xs ≤ i → Summing marks xs from total i → sum_slot total ≡ fold_slots kind.Sum (run_from marks xs from)
+summing_past marks xs from i total e h s = summing_end marks xs from i total (rest_past marks xs i e h) s
 
-pub column_made : (r : Slots) (out out' : Label) (n n' : ℕ) (xs : List Slot) (w : Vector) → r ≡ Ok xs → out' ≡ out → n' ≡ n → w ≡ column out' n' xs → column_of out n r ≡ Ok w
-column_made r out out' n n' xs w e o l h = ap (column_of out n) e ∙ cc
+pub summing_mark : (marks : List Bool) (xs : List Slot) (from i : ℕ) (total : Sum) → i < length marks → get_or marks i false ≡ true → Summing marks xs from total i → sum_slot total ≡ fold_slots kind.Sum (run_from marks xs from)
+summing_mark marks xs from i total h on s = summing_end marks xs from i total (rest_mark marks xs i h on) s

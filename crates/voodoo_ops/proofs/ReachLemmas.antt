@@ -2,7 +2,7 @@
 use Rattle.std.proofs.Common.{◌≡◌, List, [], ◌∷◌, ◌++◌, Bool, true, false, ◌||◌, refl, sym, ap, ◌∙◌, subst}
 use Rattle.std.specs.Str.{bytes_eq}
 use Rattle.voodoo_ops.specs.declared.op.Statement.{Statement}
-use Rattle.voodoo_ops.specs.Paths.{Label}
+use Rattle.voodoo_ops.specs.Vectors.{Label}
 use Rattle.voodoo_ops.specs.Vectors.{Env, nothing}
 use Rattle.voodoo_ops.specs.Meaning.{Reached, reach_if, reach_one, reached, has_name, is_persist, mentioned, run_from, shown, meaning}
 use Rattle.voodoo_ops.specs.Laws.{Keeps, ReachLaws, and_behind}

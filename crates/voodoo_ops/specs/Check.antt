@@ -1,71 +1,73 @@
 -- What a program has to be, apart from any values: each name known and known once, each path present, no two paths in each other's way.
-use Rattle.std.specs.Prelude.{ℕ, ◌+◌, min, Bool, true, false, ◌||◌, ◌&&◌, not, List, [], ◌∷◌, ◌++◌, map, length, is_none, is_some, nat_lt, if◌then◌else◌, Option, Some, None, Result, Ok, Err}
-use Rattle.std.specs.List.{fold, list_any, list_all}
+use Rattle.std.specs.Prelude.{ℕ, ◌+◌, ◌-◌, ◌^◌, min, Bool, true, false, ◌||◌, ◌&&◌, not, List, [], ◌∷◌, ◌++◌, map, length, is_none, is_some, nat_lt, slice_index_or, if◌then◌else◌, Option, Some, None, Result, Ok, Err}
+use Rattle.std.specs.Option.{option_map}
+use Rattle.std.specs.List.{list_any, list_all}
 use Rattle.std.specs.Str.{bytes_eq}
+use Rattle.key_paths.specs.Substructures.{is_root, is_at_or_below, is_before}
 use Rattle.voodoo_ops.specs.declared.op.Size.{Size}
 use Rattle.voodoo_ops.specs.declared.op.Size.TheVariants.{Number, Of}
+use Rattle.voodoo_ops.specs.declared.op.Operand.{Operand}
+use Rattle.voodoo_ops.specs.declared.op.Operand.TheVariants as operand
 use Rattle.voodoo_ops.specs.declared.op.Op.{Op}
-use Rattle.voodoo_ops.specs.declared.op.Op.TheVariants.{Load, Persist, Range, Zip, FoldSum}
+use Rattle.voodoo_ops.specs.declared.op.Op.TheVariants.{Load, Persist, Range, Zip, Divide, FoldSum}
 use Rattle.voodoo_ops.specs.declared.op.Statement.{Statement}
 use Rattle.voodoo_ops.specs.declared.op.ProgramKind.{ProgramKind}
-use Rattle.voodoo_ops.specs.declared.op.ProgramKind.TheVariants.{TooManyStatements, UnknownName, NoSuchPath, PathClash, TooDeep, NameTwice, NoPersist}
-use Rattle.voodoo_ops.specs.Paths.{Label, path_lt, at_or_below, apart, is_root, depth}
-use Rattle.voodoo_ops.specs.Vectors.{Vector}
-use Rattle.voodoo_ops.specs.Meaning.{mentioned, has_name}
+use Rattle.voodoo_ops.specs.declared.op.ProgramKind.TheVariants.{TooManyStatements, UnknownName, NoSuchPath, NoLength, PathClash, NameTwice, NoPersist}
+use Rattle.voodoo_ops.specs.Vectors.{Label, Vector, Env}
+use Rattle.voodoo_ops.specs.Merges.{merged}
+use Rattle.voodoo_ops.specs.Meaning.{mentioned, has_name, is_persist}
 
--- ---- shapes
+-- ---- outlines
 -- a vector's length, and its paths in order
-pub record Shape : Type 0 where
+pub record Outline : Type 0 where
   pub len : ℕ
   pub paths : List Label
 
--- shapes by name; none for a name that nobody made
+-- outlines by name; none for a name that nobody made
 abbrev pub Shapes : Type 0
-Shapes = Label → Option Shape
+Shapes = Label → Option Outline
 
 abbrev pub no_shapes : Shapes
 no_shapes = λ m. None
 
-abbrev pub add_shape : Shapes → Label → Shape → Shapes
-add_shape shapes n shape = λ m. if bytes_eq m n then Some shape else shapes m
+abbrev pub add_shape : Shapes → Label → Outline → Shapes
+add_shape shapes n outline = λ m. if bytes_eq n m then Some outline else shapes m
 
-abbrev pub no_shape : Shape
-no_shape = record { len = 0; paths = [] }
+abbrev pub no_outline : Outline
+no_outline = record { len = 0; paths = [] }
 
-abbrev pub known_shape : Option Shape → Shape
-known_shape None = no_shape
-known_shape (Some shape) = shape
+abbrev pub known_outline : Option Outline → Outline
+known_outline None = no_outline
+known_outline (Some outline) = outline
 
--- the shape of a vector
-abbrev pub shape_of : Vector → Shape
-shape_of v = record { len = v.len; paths = map (λ t. t.0) v.attributes }
+-- the outline of a vector, and of the vectors by name
+abbrev pub outline_of : Vector → Outline
+outline_of v = record { len = v.len; paths = map (λ t. t.0) v.attributes }
 
-abbrev pub shapes_of : List (Label × Vector) → Shapes
-shapes_of entries = fold (λ shapes e. add_shape shapes e.0 (shape_of e.1)) no_shapes entries
+abbrev pub outlines : Env → Shapes
+outlines env = λ n. option_map outline_of (env n)
 
--- paths in order
-abbrev pub with_path : Label → List Label → List Label
-with_path p [] = p ∷ []
-with_path p (q ∷ rest) = if path_lt p q then p ∷ q ∷ rest else q ∷ with_path p rest
-
-abbrev pub in_order : List Label → List Label
-in_order [] = []
-in_order (p ∷ rest) = with_path p (in_order rest)
-
--- ---- the shape of the vector that a statement makes
+-- ---- the outline of the vector that a statement makes
 abbrev pub size_in : Shapes → Size → ℕ
 size_in vectors (Number n) = n
-size_in vectors (Of a) = (known_shape (vectors a)).len
+size_in vectors (Of a) = (known_outline (vectors a)).len
 
-abbrev pub zipped_shape : Shape → Shape → Shape
-zipped_shape a b = record { len = min a.len b.len; paths = in_order (a.paths ++ b.paths) }
+abbrev pub zipped_outline : Outline → Outline → Outline
+zipped_outline a b = record { len = min a.len b.len; paths = merged is_before a.paths b.paths }
 
-abbrev pub made_shape : Shapes → Shapes → Op → Shape
-made_shape tables vectors (Load t) = known_shape (tables t)
-made_shape tables vectors (Persist a) = no_shape
-made_shape tables vectors (Range size p start step modulus divisor) = record { len = size_in vectors size; paths = p ∷ [] }
-made_shape tables vectors (Zip a b) = zipped_shape (known_shape (vectors a)) (known_shape (vectors b))
-made_shape tables vectors (FoldSum f) = record { len = (known_shape (vectors f.a)).len; paths = f.out ∷ [] }
+abbrev pub pair_len_in : Shapes → Operand → Operand → ℕ
+pair_len_in vectors (operand.Column a p) (operand.Column b q) = min (known_outline (vectors a)).len (known_outline (vectors b)).len
+pair_len_in vectors (operand.Column a p) (operand.Number z) = (known_outline (vectors a)).len
+pair_len_in vectors (operand.Number z) (operand.Column b q) = (known_outline (vectors b)).len
+pair_len_in vectors (operand.Number z) (operand.Number w) = 0
+
+abbrev pub made_outline : Shapes → Shapes → Op → Outline
+made_outline tables vectors (Load t) = known_outline (tables t)
+made_outline tables vectors (Persist a) = no_outline
+made_outline tables vectors (Range size p control) = record { len = size_in vectors size; paths = p ∷ [] }
+made_outline tables vectors (Zip a b) = zipped_outline (known_outline (vectors a)) (known_outline (vectors b))
+made_outline tables vectors (Divide p) = record { len = pair_len_in vectors p.x p.y; paths = p.out ∷ [] }
+made_outline tables vectors (FoldSum f) = record { len = (known_outline (vectors f.a)).len; paths = f.out ∷ [] }
 
 -- ---- the faults of one statement
 -- no earlier statement other than a Persist has a name that it mentions, or no table has the name that it loads
@@ -73,73 +75,108 @@ abbrev pub unknown_name : Shapes → Shapes → Op → Bool
 unknown_name tables vectors (Load t) = is_none (tables t)
 unknown_name tables vectors op = list_any (λ a. is_none (vectors a)) (mentioned op)
 
+abbrev pub lacks_path : Shapes → Label → Label → Bool
+lacks_path vectors a p = not (has_name (known_outline (vectors a)).paths p)
+
+-- nothing at or below a path
+abbrev pub lacks_below : Shapes → Label → Label → Bool
+lacks_below vectors a p = not (list_any (λ q. is_at_or_below q p) (known_outline (vectors a)).paths)
+
+abbrev pub lacks_operand : Shapes → Operand → Bool
+lacks_operand vectors (operand.Column a p) = lacks_path vectors a p
+lacks_operand vectors (operand.Number z) = false
+
 -- a path that is no attribute; where a path names a run, nothing at or below it
 abbrev pub no_such_path : Shapes → Op → Bool
-no_such_path vectors (FoldSum f) =
-    let paths = (known_shape (vectors f.a)).paths in
-    not (has_name paths f.val) || not (list_any (at_or_below f.run) paths)
+no_such_path vectors (Divide p) = lacks_operand vectors p.x || lacks_operand vectors p.y
+no_such_path vectors (FoldSum f) = lacks_path vectors f.a f.val || lacks_below vectors f.a f.run
 no_such_path vectors _ = false
 
+-- two numbers have no length
+abbrev pub is_number : Operand → Bool
+is_number (operand.Column a p) = false
+is_number (operand.Number z) = true
+
+abbrev pub no_length : Op → Bool
+no_length (Divide p) = is_number p.x && is_number p.y
+no_length _ = false
+
 -- no path is another or stands below it
+abbrev pub apart : Label → Label → Bool
+apart p q = not (is_at_or_below p q || is_at_or_below q p)
+
 abbrev pub all_apart : List Label → Bool
 all_apart [] = true
 all_apart (p ∷ rest) = list_all (apart p) rest && all_apart rest
 
--- two attributes with one path, or one below the other; an attribute at the root
-abbrev pub path_clash : Shape → Bool
+-- an attribute at the root; two attributes with one path, or one below the other
+abbrev pub path_clash : Outline → Bool
 path_clash made = list_any is_root made.paths || not (all_apart made.paths)
-
--- a path of more than eight segments
-abbrev pub too_deep : Shape → Bool
-too_deep made = list_any (λ p. nat_lt 8 (depth p)) made.paths
-
--- ---- statement by statement
--- what is known behind some statements: how many they are, the shapes of the vectors that they make, the names of the results
-pub record Known : Type 0 where
-  pub count : ℕ
-  pub vectors : Shapes
-  pub results : List Label
-
--- vectors and results have names of their own
-abbrev pub name_twice : Known → Label → Op → Bool
-name_twice known n (Persist a) = has_name known.results n
-name_twice known n _ = is_some (known.vectors n)
 
 -- the kind of the first test that holds
 abbrev pub first_fault : List (Bool × ProgramKind) → Option ProgramKind
 first_fault [] = None
 first_fault (t ∷ rest) = if t.0 then Some t.1 else first_fault rest
 
-abbrev pub fault_of : Shapes → Known → Label → Op → Option ProgramKind
-fault_of tables known n op =
-    let made = made_shape tables known.vectors op in
-    first_fault (
-    (unknown_name tables known.vectors op, UnknownName)
-    ∷ (no_such_path known.vectors op, NoSuchPath)
-    ∷ (path_clash made, PathClash)
-    ∷ (too_deep made, TooDeep)
-    ∷ (name_twice known n op, NameTwice)
-    ∷ [])
+-- the tests of an operator, in their order. A path has at most eight segments and no operator here lengthens one, so none is too deep; and none has keys
+abbrev pub op_tests : Shapes → Shapes → Op → List (Bool × ProgramKind)
+op_tests tables vectors op =
+    (unknown_name tables vectors op, UnknownName)
+    ∷ (no_such_path vectors op, NoSuchPath)
+    ∷ (no_length op, NoLength)
+    ∷ (path_clash (made_outline tables vectors op), PathClash)
+    ∷ []
 
-abbrev pub learn : Shapes → Known → Label → Op → Known
-learn tables known n (Persist a) = record { count = known.count + 1; vectors = known.vectors; results = n ∷ known.results }
-learn tables known n op = record {
-  count = known.count + 1;
-  vectors = add_shape known.vectors n (made_shape tables known.vectors op);
+-- ---- statement by statement
+-- what is known behind some statements: the outline of each, none for a Persist; those of the vectors by name; the names of the results
+pub record Known : Type 0 where
+  pub shape : List Outline
+  pub vectors : Shapes
+  pub results : Label → Bool
+
+-- vectors have names of their own, and so have results
+abbrev pub name_twice : Known → Label → Op → Bool
+name_twice known n (Persist a) = known.results n
+name_twice known n _ = is_some (known.vectors n)
+
+abbrev pub fault_of : Shapes → Known → Label → Op → Option ProgramKind
+fault_of tables known n op = first_fault (op_tests tables known.vectors op ++ (name_twice known n op, NameTwice) ∷ [])
+
+abbrev pub with_result : Known → Label → Known
+with_result known n = record {
+  shape = known.shape ++ no_outline ∷ [];
+  vectors = known.vectors;
+  results = λ m. if bytes_eq n m then true else known.results m;
+}
+
+abbrev pub with_vector : Known → Label → Outline → Known
+with_vector known n outline = record {
+  shape = known.shape ++ outline ∷ [];
+  vectors = add_shape known.vectors n outline;
   results = known.results;
 }
 
+abbrev pub known_behind : Known → Label → Op → Outline → Known
+known_behind known n (Persist a) made = with_result known n
+known_behind known n _ made = with_vector known n made
+
+abbrev pub learn : Shapes → Known → Label → Op → Known
+learn tables known n op = known_behind known n op (made_outline tables known.vectors op)
+
 -- a statement by its number, from 1 on, and what is wrong with it
-pub record Bad : Type 0 where
+pub record Fault : Type 0 where
   pub statement : ℕ
   pub kind : ProgramKind
 
+abbrev pub fault : ℕ → ProgramKind → Fault
+fault statement kind = record { statement = statement; kind = kind }
+
 abbrev pub Checked : Type 0
-Checked = Result Known Bad
+Checked = Result Known Fault
 
 abbrev pub after_fault : Known → Known → Option ProgramKind → Checked
 after_fault known next None = Ok next
-after_fault known next (Some kind) = Err (record { statement = known.count + 1; kind = kind })
+after_fault known next (Some kind) = Err (fault (length known.shape + 1) kind)
 
 abbrev pub check_one : Shapes → Known → Label → Op → Checked
 check_one tables known n op = after_fault known (learn tables known n op) (fault_of tables known n op)
@@ -155,14 +192,33 @@ check_from tables (s ∷ rest) known = then_check (check_one tables known s.name
 
 -- ---- the program
 abbrev pub at_start : Known
-at_start = record { count = 0; vectors = no_shapes; results = [] }
+at_start = record { shape = []; vectors = no_shapes; results = λ m. false }
 
 -- a program names at least one result
-abbrev pub with_persist : Known → Checked
-with_persist known = if nat_lt 0 (length known.results) then Ok known else Err (record { statement = 0; kind = NoPersist })
+abbrev pub names_result : List Statement → Bool
+names_result program = list_any (λ s. is_persist s.op) program
 
-abbrev pub check : Shapes → List Statement → Checked
+abbrev pub shape_of : Bool → Checked → Result (List Outline) Fault
+shape_of named (Err e) = Err e
+shape_of true (Ok known) = Ok known.shape
+shape_of false (Ok known) = Err (fault 0 NoPersist)
+
+-- the outline of each statement's vector, or the first fault: too many statements, then the statements in order, then no result
+abbrev pub check : Shapes → List Statement → Result (List Outline) Fault
 check tables program =
     if nat_lt 65536 (length program)
-    then Err (record { statement = 65537; kind = TooManyStatements })
-    else then_check (check_from tables program at_start) with_persist
+    then Err (fault 65537 TooManyStatements)
+    else shape_of (names_result program) (check_from tables program at_start)
+
+-- ---- what a shape says
+-- the first statement from number k on whose vector has more than 2^22 places, with its length
+abbrev pub limit_from : ℕ → List Outline → Option (ℕ × ℕ)
+limit_from k [] = None
+limit_from k (outline ∷ rest) = if nat_lt (2 ^ 22) outline.len then Some (k, outline.len) else limit_from (k + 1) rest
+
+abbrev pub limit_of : List Outline → Option (ℕ × ℕ)
+limit_of shape = limit_from 1 shape
+
+-- the outline of a statement's vector, by its number from 1 on
+abbrev pub outline_at : List Outline → ℕ → Outline
+outline_at shape statement = slice_index_or shape (statement - 1) no_outline

@@ -1,16 +1,15 @@
--- The laws of a program's meaning: programs compose, statements leave other names alone, statements that nobody reaches do not count.
+-- The laws of a program's meaning: programs compose, statements leave other names alone, statements that nobody reaches do not count, and the outlines that a check gives are those of the vectors that a run makes.
 use Rattle.std.specs.Prelude.{◌≡◌, ◌++◌, List, [], ◌∷◌, true, false, Ok}
 use Rattle.std.specs.Str.{bytes_eq}
 use Rattle.voodoo_ops.specs.declared.op.Statement.{Statement}
-use Rattle.voodoo_ops.specs.Paths.{Label}
-use Rattle.voodoo_ops.specs.Vectors.{Env, nothing}
-use Rattle.voodoo_ops.specs.Check.{Shapes, Known, then_check, check_from}
+use Rattle.voodoo_ops.specs.Vectors.{Label, Env, nothing}
+use Rattle.voodoo_ops.specs.Check.{Shapes, Known, outlines, then_check, check_from}
 use Rattle.voodoo_ops.specs.Meaning.{run_from, then_run, Reached, reached, has_name, shown, meaning}
 
 -- no statement has this name
 abbrev pub Avoids : Label → List Statement → Type 0
 Avoids m [] = Unit {0}
-Avoids m (s ∷ rest) = (bytes_eq m s.name ≡ false) × Avoids m rest
+Avoids m (s ∷ rest) = (bytes_eq s.name m ≡ false) × Avoids m rest
 
 pub record MeaningLaws : Type 0 where
   pub composes : (store : Env) (a b : List Statement) (env : Env) → run_from store (a ++ b) env ≡ then_run (run_from store a env) (run_from store b)
@@ -36,3 +35,5 @@ pub record ReachLaws : Type 0 where
 pub record CheckLaws : Type 0 where
   pub composes : (tables : Shapes) (a b : List Statement) (known : Known) → check_from tables (a ++ b) known ≡ then_check (check_from tables a known) (check_from tables b)
   pub frame : (tables : Shapes) (a : List Statement) (known after : Known) (m : Label) → Avoids m a → check_from tables a known ≡ Ok after → after.vectors m ≡ known.vectors m
+  -- what is known of the vectors by name, once all statements are run, is their outlines
+  pub outline : (store : Env) (a : List Statement) (known after : Known) (env made : Env) → outlines env ≡ known.vectors → check_from (outlines store) a known ≡ Ok after → run_from store a env ≡ Ok made → outlines made ≡ after.vectors

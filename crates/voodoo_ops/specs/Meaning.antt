@@ -1,16 +1,17 @@
 -- What a program means: its reached statements, each by its operator's meaning, in order; then the named results.
-use Rattle.std.specs.Prelude.{◌≡◌, ℕ, length, Bool, true, false, ◌||◌, List, [], ◌∷◌, ◌++◌, Option, Some, None, Result, Ok, Err}
+use Rattle.std.specs.Prelude.{ℕ, Bool, true, false, ◌||◌, List, [], ◌∷◌, ◌++◌, Option, Some, None, Result, Ok, Err}
 use Rattle.std.specs.List.{list_any}
 use Rattle.std.specs.Str.{bytes_eq}
-use Rattle.voodoo_ops.specs.declared.op.Over.{Over}
+use Rattle.control_vectors.specs.declared.Over.{Over}
 use Rattle.voodoo_ops.specs.declared.op.Size.{Size}
 use Rattle.voodoo_ops.specs.declared.op.Size.TheVariants.{Number, Of}
+use Rattle.voodoo_ops.specs.declared.op.Operand.{Operand}
+use Rattle.voodoo_ops.specs.declared.op.Operand.TheVariants as operand
 use Rattle.voodoo_ops.specs.declared.op.Op.{Op}
-use Rattle.voodoo_ops.specs.declared.op.Op.TheVariants.{Load, Persist, Range, Zip, FoldSum}
+use Rattle.voodoo_ops.specs.declared.op.Op.TheVariants.{Load, Persist, Range, Zip, Divide, FoldSum}
 use Rattle.voodoo_ops.specs.declared.op.Statement.{Statement}
-use Rattle.voodoo_ops.specs.Paths.{Label}
-use Rattle.voodoo_ops.specs.Vectors.{Vector, Env, nothing, put}
-use Rattle.voodoo_ops.specs.Operators.{ranged, zipped, fold_sum}
+use Rattle.voodoo_ops.specs.Vectors.{Label, Vector, Env, nothing, put, known, Named}
+use Rattle.voodoo_ops.specs.Operators.{ranged, zipped, pair, divide_slot, fold_sum}
 
 -- ---- statements
 abbrev pub Run : Type 0
@@ -18,15 +19,16 @@ Run = Result Env Over
 
 abbrev pub size_of : Env → Size → ℕ
 size_of env (Number n) = n
-size_of env (Of a) = (env a).len
+size_of env (Of a) = (known (env a)).len
 
 -- what an operator makes of the vectors by name, over a store of tables; none for a Persist
 abbrev pub effect : Env → Env → Op → Option (Result Vector Over)
-effect store env (Load t) = Some (Ok (store t))
+effect store env (Load t) = Some (Ok (known (store t)))
 effect store env (Persist a) = None
-effect store env (Range size p start step modulus divisor) = Some (Ok (ranged (size_of env size) p start step modulus divisor))
-effect store env (Zip a b) = Some (Ok (zipped (env a) (env b)))
-effect store env (FoldSum f) = Some (fold_sum (env f.a) f.val f.run f.out)
+effect store env (Range size p control) = Some (Ok (ranged (size_of env size) p control))
+effect store env (Zip a b) = Some (Ok (zipped (known (env a)) (known (env b))))
+effect store env (Divide p) = Some (pair divide_slot env p)
+effect store env (FoldSum f) = Some (fold_sum (known (env f.a)) f)
 
 abbrev pub after_effect : Env → Label → Option (Result Vector Over) → Run
 after_effect env n None = Ok env
@@ -51,12 +53,17 @@ abbrev pub size_names : Size → List Label
 size_names (Number n) = []
 size_names (Of a) = a ∷ []
 
+abbrev pub operand_names : Operand → List Label
+operand_names (operand.Column a p) = a ∷ []
+operand_names (operand.Number z) = []
+
 -- the vectors that a statement mentions
 abbrev pub mentioned : Op → List Label
 mentioned (Load t) = []
 mentioned (Persist a) = a ∷ []
-mentioned (Range size p start step modulus divisor) = size_names size
+mentioned (Range size p control) = size_names size
 mentioned (Zip a b) = a ∷ b ∷ []
+mentioned (Divide p) = operand_names p.x ++ operand_names p.y
 mentioned (FoldSum f) = f.a ∷ []
 
 abbrev pub is_persist : Op → Bool
@@ -75,8 +82,11 @@ abbrev pub reach_if : Bool → Statement → Reached → Reached
 reach_if true s r = record { names = mentioned s.op ++ r.names; kept = s ∷ r.kept }
 reach_if false s r = r
 
+abbrev pub is_reached : List Label → Statement → Bool
+is_reached names s = is_persist s.op || has_name names s.name
+
 abbrev pub reach_one : Statement → Reached → Reached
-reach_one s r = reach_if (is_persist s.op || has_name r.names s.name) s r
+reach_one s r = reach_if (is_reached r.names s) s r
 
 abbrev pub reached : List Label → List Statement → Reached
 reached wanted [] = record { names = wanted; kept = [] }
@@ -89,17 +99,9 @@ chosen (m ∷ marks) [] = []
 chosen (true ∷ marks) (s ∷ rest) = s ∷ chosen marks rest
 chosen (false ∷ marks) (s ∷ rest) = chosen marks rest
 
--- one mark a statement, which choose the statements that are kept
-pub record Chooses (marks : List Bool) (statements : List Statement) : Type 0 where
-  pub each : length marks ≡ length statements
-  pub kept : chosen marks statements ≡ (reached [] statements).kept
-
 -- ---- the program
-abbrev pub Named : Type 0
-Named = List (Label × Vector)
-
 abbrev pub result_of : Env → Label → Op → Named → Named
-result_of env n (Persist a) rest = (n, env a) ∷ rest
+result_of env n (Persist a) rest = (n, known (env a)) ∷ rest
 result_of env n _ rest = rest
 
 -- the named results, in the order of the Persist statements

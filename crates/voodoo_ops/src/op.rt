@@ -1,14 +1,13 @@
 //! The statements of a program.
 
 ghost use Rattle.std.specs.Prelude.{◌≡◌};
+ghost use Rattle.voodoo_ops.specs.Meaning.{is_persist};
 
+use control_vectors::{ControlVector, Over};
 use io_edge::Name;
+use key_paths::Path;
 use std::alloc::AllocError;
 use std::marker::Model;
-
-/// A number leaves 128 bits.
-#[derive(Clone, Copy, Debug, PartialEq, Eq)]
-pub struct Over;
 
 /// Why an evaluation stops early.
 #[derive(Clone, Copy, Debug, PartialEq, Eq)]
@@ -44,14 +43,29 @@ pub enum Size {
     Of(Name),
 }
 
+/// What a slot-wise operator reads: an attribute of a vector, or one number for every slot.
+#[derive(Debug, Drop)]
+pub enum Operand {
+    Column(Name, Path),
+    Number(i128),
+}
+
+/// The two operands of a slot-wise operator, and the attribute that it makes.
+#[derive(Debug, Drop)]
+pub struct PairArgs {
+    pub x: Operand,
+    pub y: Operand,
+    pub out: Path,
+}
+
 /// What a fold reads and makes: the values at `val` of the vector `a`, in runs of what stands at or
 /// below `run`, folded into the attribute `out`.
 #[derive(Debug, Drop)]
 pub struct FoldArgs {
     pub a: Name,
-    pub val: Name,
-    pub run: Name,
-    pub out: Name,
+    pub val: Path,
+    pub run: Path,
+    pub out: Path,
 }
 
 /// An operator with its arguments, in the order of the algebra's text.
@@ -65,17 +79,27 @@ pub enum Op {
     },
     Range {
         size: Size,
-        out: Name,
-        start: i64,
-        step: u64,
-        modulus: u64,
-        divisor: u64,
+        out: Path,
+        control: ControlVector,
     },
     Zip {
         a: Name,
         b: Name,
     },
+    Divide(PairArgs),
     FoldSum(FoldArgs),
+}
+
+impl Op {
+    /// Whether it names a result.
+    pub(crate) fn persists(&self) -> bool
+        ensures { result ≡ is_persist self.now }
+    {
+        match self {
+            Op::Persist { .. } => true,
+            _ => false,
+        }
+    }
 }
 
 /// `name = op`. The name of a `Persist` is the result's.

@@ -1,11 +1,13 @@
 //! Which statements are reached: each Persist, and each whose vector a reached statement mentions.
 
-ghost use Rattle.std.specs.Prelude.{◌≡◌, ◌||◌, ◌++◌, [], ◌∷◌, length, IfOk, OnOk};
-ghost use Rattle.voodoo_ops.specs.Meaning.{Chooses, has_name, is_persist, mentioned, size_names};
+ghost use Rattle.std.specs.Prelude.{◌≡◌, ◌||◌, ◌++◌, ◌∷◌, [], false, is_some, replicate, IfOk};
+ghost use Rattle.voodoo_ops.specs.Meaning.{is_persist, mentioned, operand_names, size_names};
+ghost use Rattle.voodoo_ops.specs.Indexes.{places_of};
+ghost use Rattle.voodoo_ops.specs.Reaching.{Chooses, AlsoWants};
 
-use crate::run_marks::no_marks;
-use crate::{Op, Size, Statement};
-use io_edge::{Name, NoMemory};
+use crate::index::Index;
+use crate::{NoMemory, Op, Operand, PairArgs, Size, Statement};
+use io_edge::Name;
 use std::alloc::Global;
 
 /// For each statement, whether some Persist reaches it.
@@ -13,72 +15,81 @@ pub(crate) fn reached_marks(alloc: Global, statements: &[Statement]) -> Result<V
     ensures { IfOk result (λ m. Chooses m.items statements.now) }
 {
     let mut marks = no_marks(alloc, statements.len())?;
-    let mut names: Vec<Name> = Vec::new(alloc);
+    let mut wanted = Index::new(alloc);
     let mut i = statements.len();
     while i > 0 {
         i -= 1;
-        if is_wanted(names.as_slice(), &statements[i]) {
-            mention(alloc, &mut names, &statements[i].op)?;
+        if is_wanted(&wanted, &statements[i]) {
+            wanted = mention(alloc, wanted, &statements[i].op)?;
             marks[i] = true;
         }
     }
     Ok(marks)
 }
 
-fn is_wanted(names: &[Name], s: &Statement) -> bool
-    ensures { result ≡ (is_persist s.now.op || has_name names.now s.now.name) }
+pub(crate) fn no_marks(alloc: Global, len: usize) -> Result<Vec<bool>, NoMemory>
+    ensures { IfOk result (λ m. m.items ≡ replicate len false) }
 {
-    persists(&s.op) || is_among(names, &s.name)
+    vec![in alloc; false; len]
 }
 
-fn persists(op: &Op) -> bool
-    ensures { result ≡ is_persist op.now }
+fn is_wanted(wanted: &Index, s: &Statement) -> bool
+    ensures { result ≡ (is_persist s.now.op || is_some (places_of wanted.now s.now.name)) }
 {
-    match op {
-        Op::Persist { .. } => true,
-        _ => false,
-    }
-}
-
-fn is_among(names: &[Name], name: &Name) -> bool
-    ensures { result ≡ has_name names.now name.now }
-{
-    for n in names {
-        if n.text() == name.text() {
-            return true;
-        }
-    }
-    false
+    s.op.persists() || wanted.place(&s.name).is_some()
 }
 
 /// Adds the names that an operator mentions.
-fn mention(alloc: Global, names: &mut Vec<Name>, op: &Op) -> Result<(), NoMemory>
-    ensures { OnOk result (names.new.items ≡ names.old.items ++ mentioned op.now) }
+fn mention(alloc: Global, wanted: Index, op: &Op) -> Result<Index, NoMemory>
+    ensures { IfOk result (λ now. AlsoWants (places_of wanted) (mentioned op.now) (places_of now)) }
 {
     match op {
-        Op::Load { .. } => Ok(()),
-        Op::Persist { a } => add(alloc, names, a),
-        Op::Range { size, .. } => mention_size(alloc, names, size),
-        Op::Zip { a, b } => {
-            add(alloc, names, a)?;
-            add(alloc, names, b)
-        }
-        Op::FoldSum(args) => add(alloc, names, &args.a),
+        Op::Load { .. } => Ok(wanted),
+        Op::Persist { a } => want(alloc, wanted, a),
+        Op::Range { size, .. } => mention_size(alloc, wanted, size),
+        Op::Zip { a, b } => mention_both(alloc, wanted, a, b),
+        Op::Divide(args) => mention_pair(alloc, wanted, args),
+        Op::FoldSum(args) => want(alloc, wanted, &args.a),
     }
 }
 
-fn mention_size(alloc: Global, names: &mut Vec<Name>, size: &Size) -> Result<(), NoMemory>
-    ensures { OnOk result (names.new.items ≡ names.old.items ++ size_names size.now) }
+fn want(alloc: Global, wanted: Index, a: &Name) -> Result<Index, NoMemory>
+    ensures { IfOk result (λ now. AlsoWants (places_of wanted) (a.now ∷ []) (places_of now)) }
+{
+    let now = wanted.with(alloc, a, 0)?;
+    Ok(now)
+}
+
+fn mention_both(alloc: Global, wanted: Index, a: &Name, b: &Name) -> Result<Index, NoMemory>
+    ensures { IfOk result (λ now. AlsoWants (places_of wanted) (a.now ∷ b.now ∷ []) (places_of now)) }
+{
+    let first = want(alloc, wanted, a)?;
+    let now = want(alloc, first, b)?;
+    Ok(now)
+}
+
+fn mention_size(alloc: Global, wanted: Index, size: &Size) -> Result<Index, NoMemory>
+    ensures { IfOk result (λ now. AlsoWants (places_of wanted) (size_names size.now) (places_of now)) }
 {
     match size {
-        Size::Number(_) => Ok(()),
-        Size::Of(a) => add(alloc, names, a),
+        Size::Number(_) => Ok(wanted),
+        Size::Of(a) => want(alloc, wanted, a),
     }
 }
 
-fn add(alloc: Global, names: &mut Vec<Name>, name: &Name) -> Result<(), NoMemory>
-    ensures { OnOk result (names.new.items ≡ names.old.items ++ name.now ∷ []) }
+fn mention_pair(alloc: Global, wanted: Index, args: &PairArgs) -> Result<Index, NoMemory>
+    ensures { IfOk result (λ now. AlsoWants (places_of wanted) (operand_names args.now.x ++ operand_names args.now.y) (places_of now)) }
 {
-    names.push(name.copied(alloc)?)?;
-    Ok(())
+    let first = mention_operand(alloc, wanted, &args.x)?;
+    let now = mention_operand(alloc, first, &args.y)?;
+    Ok(now)
+}
+
+fn mention_operand(alloc: Global, wanted: Index, x: &Operand) -> Result<Index, NoMemory>
+    ensures { IfOk result (λ now. AlsoWants (places_of wanted) (operand_names x.now) (places_of now)) }
+{
+    match x {
+        Operand::Column(a, _) => want(alloc, wanted, a),
+        Operand::Number(_) => Ok(wanted),
+    }
 }

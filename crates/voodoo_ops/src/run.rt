@@ -1,20 +1,26 @@
 //! The plain run of a program.
 
-ghost use Rattle.std.specs.Prelude.{◌≡◌, IfOk, Ok};
+ghost use Rattle.std.specs.Prelude.{◌≡◌, Ok, None};
+ghost use Rattle.voodoo_ops.specs.Check.{check, limit_of, outlines};
 ghost use Rattle.voodoo_ops.specs.Meaning.{meaning};
-ghost use Rattle.voodoo_ops.specs.Sums.{IsNarrowStore, IsSumProgram};
-ghost use Rattle.voodoo_ops.specs.Vectors.{env_of};
+ghost use Rattle.voodoo_ops.specs.Stops.{Runs};
+ghost use Rattle.voodoo_ops.specs.Vectors.{tables};
 
 use crate::evaluate::evaluate;
-use crate::laws::never_over;
 use crate::op::Stop;
-use crate::{Program, Results, Store};
+use crate::{Program, Results, Shape};
 use std::alloc::{AllocError, Global};
+use struct_vectors::Store;
+use thiserror::Error;
 
 /// Why a run gave no results.
-#[derive(Clone, Copy, Debug, PartialEq, Eq)]
+#[derive(Clone, Copy, Debug, PartialEq, Eq, Error)]
 pub enum RunRefusal {
+    /// A number that a reached statement makes leaves 128 bits.
+    #[error("a number leaves 128 bits")]
+    Overflow,
     /// Memory was refused.
+    #[error("out of memory")]
     NoMemory,
 }
 
@@ -28,19 +34,23 @@ impl From<AllocError> for RunRefusal {
     }
 }
 
-/// The named results of a program that adds up once: Load, Range, Zip, FoldSum, Persist, in this
-/// order, where the Range is 0 everywhere. They are what the program means, operator by operator.
-/// Every number of the store has at most 64 bits and every vector at most 2^22 slots, so that no
-/// total leaves 128 bits. It fails only for want of memory.
-pub fn run_plain(alloc: Global, p: &Program, store: &Store) -> Result<Results, RunRefusal>
-    requires form { IsSumProgram p.now }
-    requires narrow { IsNarrowStore store.now }
-    ensures { IfOk result (λ r. meaning (env_of store.now) p.now ≡ Ok r) }
+/// The named results of a program over a store: the statements that some Persist reaches, operator by
+/// operator, in order. It gives just what the program means, and `Overflow` exactly where that is that
+/// a number leaves 128 bits. `shape` is what `check` gave for this program and store.
+pub fn run_plain(
+    alloc: Global,
+    p: &Program,
+    shape: &Shape,
+    store: &Store,
+) -> Result<Results, RunRefusal>
+    requires checked { check (outlines (tables store.now)) p.now ≡ Ok shape.now }
+    requires small { limit_of shape.now ≡ None }
+    ensures { Runs result (meaning (tables store.now) p.now) }
 {
-    never_over();
+    let _shape = shape;
     match evaluate(alloc, p, store) {
         Ok(results) => Ok(results),
         Err(Stop::NoMemory) => Err(RunRefusal::NoMemory),
-        Err(Stop::Overflow) => unreachable!(),
+        Err(Stop::Overflow) => Err(RunRefusal::Overflow),
     }
 }

@@ -1,43 +1,54 @@
 //! The program that adds up one column, the store of that column, and the slot with the total.
 
-ghost use Rattle.std.specs.Prelude.{◌≡◌, ◌≤◌, ◌^◌, ◌++◌, [], ◌∷◌, IfOk, OnOk, All, FitsSigned, Some, length, codes, pos};
+ghost use Rattle.std.specs.Prelude.{◌≡◌, ◌≤◌, ◌^◌, ◌<◌, ◌++◌, [], ◌∷◌, IfOk, IfErr, IsOk, OnOk, All, FitsSigned, Ok, None, length, codes, slice_index_or};
 ghost use Rattle.std.specs.Int.{w64};
-ghost use Rattle.voodoo_ops.specs.Sums.{
-  IsNarrowStore,
-  IsSumProgram,
-  column_store,
-  filled,
-  first_slot_of,
-  statement,
-  sum_statements,
-  total_slot,
-};
+ghost use Rattle.key_paths.specs.Paths.{IsPath};
+ghost use Rattle.voodoo_ops.specs.Check.{check, outlines};
+ghost use Rattle.voodoo_ops.specs.Sums.{column_store, first_slot_of, statement, sum_statements, total_slot, zero_control};
+ghost use Rattle.voodoo_ops.specs.Vectors.{seen_all, tables};
 
 use crate::laws::sum_laws;
 use crate::run::{RunRefusal, run_plain};
-use crate::store::{keep, slot_or_empty};
-use crate::{FoldArgs, Op, PlainVector, Program, Results, Size, Slot, Statement, Store};
-use io_edge::{Name, NoMemory};
-use std::alloc::Global;
+use crate::{
+    FoldArgs, NoMemory, Op, Program, ProgramRefusal, Results, Shape, Size, Slot, Statement,
+};
+use control_vectors::ControlVector;
+use io_edge::Name;
+use key_paths::{Path, PathRefusal};
+use std::alloc::{AllocError, Global};
+use struct_vectors::{Column, Store, StructVector};
 
 /// The exact total of a column, as the run of its sum program gives it: empty for no numbers.
 /// It fails only for want of memory.
 pub fn column_total(alloc: Global, numbers: &[i64]) -> Result<Slot, RunRefusal>
     requires { length numbers.now ≤ 2 ^ 22 }
-    ensures { IfOk result (λ s. s ≡ total_slot numbers.now) }
+    ensures total { IfOk result (λ s. s ≡ total_slot numbers.now) }
+    ensures never_over { IfErr result (λ e. e ≡ RunRefusal.NoMemory) }
 {
     let program = sum_program(alloc)?;
     let store = store_of_column(alloc, numbers)?;
     sum_laws();
-    let results = run_plain(alloc, &program, &store)?;
+    let shape = shape_of(alloc, &program, &store)?;
+    let results = run_plain(alloc, &program, &shape, &store)?;
     Ok(first_slot(&results))
+}
+
+/// The shape of a program that passes the check.
+fn shape_of(alloc: Global, program: &Program, store: &Store) -> Result<Shape, NoMemory>
+    requires { IsOk (check (outlines (tables store.now)) program.now) }
+    ensures { IfOk result (λ shape. check (outlines (tables store.now)) program.now ≡ Ok shape) }
+{
+    match program.check(alloc, store) {
+        Ok(shape) => Ok(shape),
+        Err(ProgramRefusal::NoMemory) => Err(AllocError),
+        Err(ProgramRefusal::Bad { .. }) => unreachable!(),
+    }
 }
 
 /// `t = Load(t)`, `r = Range(t, .run, 0, 0, 0, 1)`, `z = Zip(t, r)`, `s = FoldSum(z, .a, .run, .sum)`,
 /// `Persist(out, s)`.
 pub fn sum_program(alloc: Global) -> Result<Program, NoMemory>
-    ensures program { IfOk result (λ p. p ≡ sum_statements) }
-    ensures form { IfOk result (λ p. IsSumProgram p) }
+    ensures { IfOk result (λ p. p ≡ sum_statements) }
 {
     let mut statements = Vec::with_capacity(alloc, 5)?;
     add(alloc, &mut statements, "t", load(alloc)?)?;
@@ -58,6 +69,19 @@ fn add(alloc: Global, to: &mut Vec<Statement>, name: &str, op: Op) -> Result<(),
     Ok(())
 }
 
+/// A path that is known to be one.
+fn path(alloc: Global, text: &str) -> Result<Path, NoMemory>
+    requires path { IsPath text.now }
+    requires short { length text.now < 2 ^ 32 }
+    ensures { IfOk result (λ p. p ≡ text.now) }
+{
+    match Path::read(alloc, text) {
+        Ok(p) => Ok(p),
+        Err(PathRefusal::NoMemory) => Err(AllocError),
+        Err(PathRefusal::Bad { .. }) => unreachable!(),
+    }
+}
+
 fn load(alloc: Global) -> Result<Op, NoMemory>
     ensures { IfOk result (λ op. op ≡ Op.Load (codes "t")) }
 {
@@ -67,16 +91,23 @@ fn load(alloc: Global) -> Result<Op, NoMemory>
 }
 
 fn range(alloc: Global) -> Result<Op, NoMemory>
-    ensures { IfOk result (λ op. op ≡ Op.Range (Size.Of (codes "t")) (codes ".run") (pos 0) 0 0 1) }
+    ensures { IfOk result (λ op. op ≡ Op.Range (Size.Of (codes "t")) (codes ".run") zero_control) }
 {
     Ok(Op::Range {
         size: Size::Of(Name::of(alloc, "t")?),
-        out: Name::of(alloc, ".run")?,
-        start: 0,
-        step: 0,
-        modulus: 0,
-        divisor: 1,
+        out: path(alloc, ".run")?,
+        control: zeros(),
     })
+}
+
+/// The control vector that is 0 everywhere.
+fn zeros() -> ControlVector
+    ensures { result ≡ zero_control }
+{
+    match ControlVector::new(0, 0, 0, 1) {
+        Some(control) => control,
+        None => unreachable!(),
+    }
 }
 
 fn zip(alloc: Global) -> Result<Op, NoMemory>
@@ -98,9 +129,9 @@ fn fold(alloc: Global) -> Result<Op, NoMemory>
 {
     Ok(Op::FoldSum(FoldArgs {
         a: Name::of(alloc, "z")?,
-        val: Name::of(alloc, ".a")?,
-        run: Name::of(alloc, ".run")?,
-        out: Name::of(alloc, ".sum")?,
+        val: path(alloc, ".a")?,
+        run: path(alloc, ".run")?,
+        out: path(alloc, ".sum")?,
     }))
 }
 
@@ -116,39 +147,40 @@ fn persist(alloc: Global) -> Result<Op, NoMemory>
 pub fn store_of_column(alloc: Global, numbers: &[i64]) -> Result<Store, NoMemory>
     requires { length numbers.now ≤ 2 ^ 22 }
     ensures store { IfOk result (λ s. s ≡ column_store numbers.now) }
-    ensures narrow { IfOk result (λ s. IsNarrowStore s) }
     ensures fit { OnOk result (All (FitsSigned w64) numbers.now) }
 {
-    let slots = filled_slots(alloc, numbers)?;
-    let column = PlainVector::of_one(alloc, Name::of(alloc, ".a")?, numbers.len() as u32, slots)?;
-    let mut vectors = Vec::new(alloc);
-    keep(&mut vectors, Name::of(alloc, "t")?, column)?;
+    let copies = copied_numbers(alloc, numbers)?;
+    let v = StructVector::of_column(alloc, path(alloc, ".a")?, Column::narrow(copies))?;
+    let mut vectors = Vec::with_capacity(alloc, 1)?;
+    vectors.push((Name::of(alloc, "t")?, v))?;
     Ok(Store::new(vectors))
 }
 
-fn filled_slots(alloc: Global, numbers: &[i64]) -> Result<Vec<Slot>, NoMemory>
-    ensures slots { IfOk result (λ v. v.items ≡ filled numbers.now) }
+fn copied_numbers(alloc: Global, numbers: &[i64]) -> Result<Vec<i64>, NoMemory>
+    ensures items { IfOk result (λ v. v.items ≡ numbers.now) }
     ensures fit { OnOk result (All (FitsSigned w64) numbers.now) }
 {
-    let mut slots = Vec::with_capacity(alloc, numbers.len())?;
+    let mut copies = Vec::with_capacity(alloc, numbers.len())?;
     for n in numbers {
-        fill(&mut slots, *n)?;
+        copies.push(*n)?;
     }
-    Ok(slots)
-}
-
-fn fill(slots: &mut Vec<Slot>, n: i64) -> Result<(), NoMemory>
-    ensures slot { OnOk result (slots.new.items ≡ slots.old.items ++ Some n ∷ []) }
-    ensures fits { FitsSigned w64 n }
-{
-    slots.push(Some(i128::from(n)))?;
-    Ok(())
+    Ok(copies)
 }
 
 /// The slot at place 0 of the first result's first attribute: empty where there is none.
 pub fn first_slot(results: &Results) -> Slot
-    ensures { result ≡ first_slot_of results.now }
+    ensures { result ≡ first_slot_of (seen_all results.now) }
 {
-    let (_, v) = results.named().first()?;
-    slot_or_empty(v.attributes().first()?.slots(), 0)
+    let shown = results.named().first()?;
+    slot_at_start(shown.1.columns().first()?)
+}
+
+fn slot_at_start(column: &Column) -> Slot
+    ensures { result ≡ slice_index_or column.now.slots 0 None }
+{
+    if column.len() > 0 {
+        column.get(0)
+    } else {
+        None
+    }
 }

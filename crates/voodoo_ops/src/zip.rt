@@ -1,77 +1,79 @@
 //! Zip: the attributes of two vectors, at the shorter length.
 
-ghost use Rattle.std.specs.Prelude.{◌≡◌, ◌++◌, take, IfOk, OnOk};
-ghost use Rattle.voodoo_ops.specs.Vectors.{by_path, cut_to, with_attribute};
+ghost use Rattle.std.specs.Prelude.{◌≡◌, ◌++◌, ◌∷◌, [], ◌<◌, ◌≤◌, false, length, slice_index_or, IfOk, OnOk};
+ghost use Rattle.voodoo_ops.specs.Check.{outline_of, path_clash, zipped_outline};
+ghost use Rattle.voodoo_ops.specs.Merges.{merged};
 ghost use Rattle.voodoo_ops.specs.Operators.{zipped};
-ghost use Rattle.voodoo_ops.specs.Paths.{path_lt};
+ghost use Rattle.voodoo_ops.specs.Outlines.{earlier, fronts, no_attribute};
+ghost use Rattle.voodoo_ops.specs.Vectors.{seen};
 
-use crate::{Attribute, PlainVector};
-use io_edge::NoMemory;
-use std::alloc::Global;
+use crate::NoMemory;
+use crate::ordered::takes_second;
+use key_paths::Path;
+use std::alloc::{AllocError, Global};
+use struct_vectors::{Column, StructVector};
 
-/// The attributes of both, at the shorter length.
-pub(crate) fn zip(alloc: Global, a: &PlainVector, b: &PlainVector) -> Result<PlainVector, NoMemory>
-    ensures { IfOk result (λ v. v ≡ zipped a.now b.now) }
+/// How many attributes a vector may have at most, and one more.
+const TOO_MANY: usize = 1 << 32;
+
+/// The attributes of both, at the shorter length. They are not in each other's way.
+pub(crate) fn zip(
+    alloc: Global,
+    a: &StructVector,
+    b: &StructVector,
+) -> Result<StructVector, NoMemory>
+    requires { path_clash (zipped_outline (outline_of (seen a.now)) (outline_of (seen b.now))) ≡ false }
+    ensures { IfOk result (λ v. seen v ≡ zipped (seen a.now) (seen b.now)) }
 {
+    if a.paths().len() + b.paths().len() >= TOO_MANY {
+        return Err(AllocError);
+    }
     let len = a.len().min(b.len());
-    let mut all = Vec::new(alloc);
-    copy_cut(alloc, &mut all, a.attributes(), len)?;
-    copy_cut(alloc, &mut all, b.attributes(), len)?;
-    Ok(PlainVector::of(len, in_order(alloc, all)?))
+    let attributes = merged_attributes(alloc, a, b, len)?;
+    let v = StructVector::of_ordered(alloc, len, attributes)?;
+    Ok(v)
 }
 
-/// Appends copies of attributes, each cut to its first slots.
-pub(crate) fn copy_cut(
+/// The fronts of the attributes of both, in order.
+fn merged_attributes(
     alloc: Global,
-    into: &mut Vec<Attribute>,
-    attributes: &[Attribute],
+    a: &StructVector,
+    b: &StructVector,
+    len: u32,
+) -> Result<Vec<(Path, Column)>, NoMemory>
+    requires first { len ≤ a.now.length }
+    requires second { len ≤ b.now.length }
+    ensures { IfOk result (λ v. v.items ≡ merged earlier (fronts len a.now.attributes) (fronts len b.now.attributes)) }
+{
+    let mut attributes = Vec::new(alloc);
+    let mut i = 0;
+    let mut j = 0;
+    while i < a.paths().len() || j < b.paths().len() {
+        if takes_second(a.paths(), i, b.paths(), j) {
+            push_front(alloc, &mut attributes, b, j, len)?;
+            j += 1;
+        } else {
+            push_front(alloc, &mut attributes, a, i, len)?;
+            i += 1;
+        }
+    }
+    Ok(attributes)
+}
+
+/// Appends the front of an attribute.
+fn push_front(
+    alloc: Global,
+    attributes: &mut Vec<(Path, Column)>,
+    v: &StructVector,
+    i: usize,
     len: u32,
 ) -> Result<(), NoMemory>
-    ensures { OnOk result (into.new.items ≡ into.old.items ++ cut_to len attributes.now) }
+    requires within { i < length v.now.attributes }
+    requires front { len ≤ v.now.length }
+    ensures { OnOk result (attributes.new.items ≡ attributes.old.items ++ slice_index_or (fronts len v.now.attributes) i no_attribute ∷ []) }
 {
-    for t in attributes {
-        into.push(cut(alloc, t, len as usize)?)?;
-    }
+    let path = v.paths()[i].copied(alloc)?;
+    let column = v.columns()[i].front(alloc, len)?;
+    attributes.push((path, column))?;
     Ok(())
-}
-
-fn cut(alloc: Global, t: &Attribute, len: usize) -> Result<Attribute, NoMemory>
-    ensures { IfOk result (λ u. u ≡ (t.now.0, take len t.now.1)) }
-{
-    let slots = t.slots();
-    let kept = if len < slots.len() {
-        &slots[..len]
-    } else {
-        slots
-    };
-    Ok(Attribute::new(t.path().copied(alloc)?, kept.to_vec(alloc)?))
-}
-
-/// The attributes, ascending by path.
-fn in_order(alloc: Global, mut all: Vec<Attribute>) -> Result<Vec<Attribute>, NoMemory>
-    ensures { IfOk result (λ v. v.items ≡ by_path all.items) }
-{
-    let mut ordered = Vec::with_capacity(alloc, all.len())?;
-    while let Some(t) = all.pop() {
-        insert(&mut ordered, t)?;
-    }
-    Ok(ordered)
-}
-
-/// Puts an attribute before the first one with a greater path.
-fn insert(ordered: &mut Vec<Attribute>, t: Attribute) -> Result<(), NoMemory>
-    ensures { OnOk result (ordered.new.items ≡ with_attribute t ordered.old.items) }
-{
-    let mut at = 0;
-    while at < ordered.len() && !comes_before(&t, &ordered[at]) {
-        at += 1;
-    }
-    ordered.insert(at, t)?;
-    Ok(())
-}
-
-fn comes_before(t: &Attribute, u: &Attribute) -> bool
-    ensures { result ≡ path_lt t.now.0 u.now.0 }
-{
-    t.path().text() < u.path().text()
 }

@@ -1,7 +1,7 @@
-use Rattle.std.proofs.Common.{◌≡◌, ◌++◌, drop}
-use Rattle.voodoo_ops.specs.Vectors.{env_of}
-use Rattle.voodoo_ops.specs.Meaning.{chosen, results}
+use Rattle.voodoo_ops.specs.Outlines.{env_in}
+use Rattle.voodoo_ops.specs.Vectors.{seen_all}
+use Rattle.voodoo_ops.proofs.Evaluated.{Naming}
 use Rattle.voodoo_ops.proofs.evaluate.named_results.Given as goal
 
 abbrev pub invariant-loop-i : goal.invariant-loop-i
-invariant-loop-i l = results (env_of l.env) (chosen l.marks l.statements) ≡ l.named.items ++ results (env_of l.env) (chosen (drop l.i l.marks) (drop l.i l.statements))
+invariant-loop-i l = Naming (env_in l.made) l.marks l.statements l.i (seen_all l.named.items)

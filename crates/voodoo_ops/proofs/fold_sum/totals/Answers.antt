@@ -1,21 +1,29 @@
-use Rattle.std.proofs.Common.{sym, ◌∙◌, arith}
+use Rattle.std.proofs.Common.{◌+◌, ap, ◌∙◌, arith, length, List}
 use Rattle.std.proofs.lemmas.Result.{err_from_is_err_and}
-use Rattle.voodoo_ops.proofs.Folds.{folding_start, folding_on, folding_mark, folding_over, get_or-padded}
+use Rattle.control_vectors.specs.Slots.{Slot, cells_of}
+use Rattle.struct_vectors.specs.Makers.{MakerValue}
+use Rattle.struct_vectors.specs.Columns.{ColumnValue}
+use Rattle.voodoo_ops.specs.Operators.{sum_cells}
+use Rattle.voodoo_ops.proofs.Folds.{length_sum_cells}
+use Rattle.voodoo_ops.proofs.Listings.{listed_more, listed_over, listed_all, length_pushed}
 use Rattle.voodoo_ops.proofs.fold_sum.totals.Goals as goal
 
-pub loop-i-init : goal.loop-i-init
-loop-i-init c = folding_start _ _ _ _ c.in_ok-out.ensures c.empty-total.ensures
-
-pub with_slot-total-requires : goal.with_slot-total-requires
-with_slot-total-requires c = omega (arith, c.loop-i.invariant.few, c.loop-i.invariant.within)
+pub returns-in_err-total_at : goal.returns-in_err-total_at
+returns-in_err-total_at c =
+    let p = err_from_is_err_and c.from_residual-in_err-total_at.result c.from_residual-in_err-total_at.ensures.1 in
+    rw (p.1, p.2) (listed_over (sum_cells c.args.marks.now c.args.values.now.slots) c.loop-i.i c.in_err-total_at.field-0.0 c.in_err-total_at.ensures)
 
 pub loop-i-preserved : goal.loop-i-preserved
-loop-i-preserved c = folding_on _ _ _ _ _ c.loop-i.i _ c.slot_or_empty.result (omega arith) c.loop-i.invariant (c.slot_or_empty.ensures ∙ sym (get_or-padded _ c.args.slots.now _ (omega (arith, c.loop-i.invariant.within)))) c.if-marks-i.false c.with_slot-total.ensures
+loop-i-preserved c =
+    let slots = ap (λ (m : MakerValue). m.slots) c.push.ensures in
+    record {
+      room = ap (λ (m : MakerValue). m.room) c.push.ensures ∙ c.loop-i.invariant.room;
+      wide = ap (λ (m : MakerValue). m.wide) c.push.ensures ∙ c.loop-i.invariant.wide;
+      count = ap (λ (l : List Slot). length l) slots ∙ length_pushed c.loop-i.maker.slots c.in_ok-total_at.field-0 ∙ ap (λ n. n + 1) c.loop-i.invariant.count;
+      so_far = ap cells_of slots ∙ listed_more (sum_cells c.args.marks.now c.args.values.now.slots) c.loop-i.maker.slots c.loop-i.i c.in_ok-total_at.field-0 c.loop-i.invariant.so_far c.in_ok-total_at.ensures;
+    }
 
-pub loop-i-preserved-then-marks-i : goal.loop-i-preserved-then-marks-i
-loop-i-preserved-then-marks-i c = folding_mark _ _ _ _ _ _ c.loop-i.i _ c.slot_or_empty.result _ (omega arith) c.loop-i.invariant (c.slot_or_empty.ensures ∙ sym (get_or-padded _ c.args.slots.now _ (omega (arith, c.loop-i.invariant.within)))) c.if-marks-i.true c.with_slot-total.ensures (sym c.in_ok-out-2.ensures) c.empty-total-then-marks-i.ensures
-
-pub returns-in_err-out-2 : goal.returns-in_err-out-2
-returns-in_err-out-2 c =
-    let p = err_from_is_err_and c.from_residual-in_err-out-2.result c.from_residual-in_err-out-2.ensures.1 in
-    rw (p.1, p.2) (folding_over _ _ _ _ _ c.loop-i.i _ c.slot_or_empty.result c.in_err-out-2.field-0.0 (omega arith) c.loop-i.invariant (c.slot_or_empty.ensures ∙ sym (get_or-padded _ c.args.slots.now _ (omega (arith, c.loop-i.invariant.within)))) c.if-marks-i.true c.with_slot-total.ensures (sym c.in_err-out-2.ensures))
+pub returns : goal.returns
+returns c =
+    let slots = ap (λ (v : ColumnValue). v.slots) c.done.ensures in
+    rw slots (listed_all (sum_cells c.args.marks.now c.args.values.now.slots) c.loop-i.maker.slots c.loop-i.i (omega (arith, length_sum_cells c.args.marks.now c.args.values.now.slots c.requires, c.len-i-end.ensures.len, c.loop-i-test.false)) c.loop-i.invariant.so_far)

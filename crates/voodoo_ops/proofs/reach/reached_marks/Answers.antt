@@ -1,14 +1,14 @@
-use Rattle.std.proofs.Common.{◌||◌, List, ap, ◌∙◌, arith}
-use Rattle.voodoo_ops.specs.Paths.{Label}
-use Rattle.voodoo_ops.specs.Meaning.{is_persist, has_name}
-use Rattle.voodoo_ops.proofs.Marks.{marked_start, marked_skip}
+use Rattle.std.proofs.Common.{arith}
+use Rattle.voodoo_ops.specs.Indexes.{places_of}
+use Rattle.voodoo_ops.proofs.Marks.{marked_start, marked_skip, marked_keep}
 use Rattle.voodoo_ops.proofs.reach.reached_marks.Goals as goal
 
 pub loop-i-init : goal.loop-i-init
-loop-i-init c = marked_start _ _ _ c.in_ok-marks.ensures c.new-names.ensures.items
+loop-i-init c = marked_start _ _ _ c.in_ok-marks.ensures c.new-wanted.ensures
+
+pub loop-i-preserved-then-is_wanted : goal.loop-i-preserved-then-is_wanted
+loop-i-preserved-then-is_wanted c =
+    marked_keep _ _ _ (places_of c.in_ok-wanted.wanted) c.loop-i.i _ c.index-statements-i.result c.index-statements-i-then-is_wanted.result (omega arith) c.loop-i.invariant c.index-statements-i.is c.if-is_wanted.ensures c.in_ok-wanted.ensures
 
 pub loop-i-preserved : goal.loop-i-preserved
-loop-i-preserved c =
-    let s = c.index-statements-i.result in
-    marked_skip _ _ _ c.loop-i.i _ s (omega arith) c.loop-i.invariant c.index-statements-i.is
-    (c.if-is_wanted.ensures ∙ ap (λ (names : List Label). is_persist s.op || has_name names s.name) c.as_slice.ensures.value)
+loop-i-preserved c = marked_skip _ _ _ c.loop-i.i _ c.index-statements-i.result (omega arith) c.loop-i.invariant c.index-statements-i.is c.if-is_wanted.ensures

@@ -1,0 +1,328 @@
+-- A checked program meets none of its faults while it runs.
+use Rattle.std.proofs.Common.{◌≡◌, ℕ, ◌^◌, ◌<◌, ◌≤◌, Bool, true, false, ◌||◌, List, [], ◌∷◌, ◌++◌, length, get_or, refl, sym, ap, ◌∙◌, arith, subst, append_assoc, Option, Some, None, Result, Ok, Err, if◌then◌else◌}
+use Rattle.std.specs.Prelude.{is_none, is_some, nat_lt}
+use Rattle.std.specs.Option.{option_map}
+use Rattle.std.specs.Str.{bytes_eq}
+use Rattle.std.proofs.lemmas.Bool.{false≢true}
+use Rattle.std.proofs.lemmas.Slice.Eq.{bytes_eq-Decides}
+use Rattle.control_vectors.specs.declared.Over.{Over}
+use Rattle.voodoo_ops.specs.declared.op.Op.{Op}
+use Rattle.voodoo_ops.specs.declared.op.Op.TheVariants.{Load, Persist, Range, Zip, Divide, FoldSum}
+use Rattle.voodoo_ops.specs.declared.op.Statement.{Statement}
+use Rattle.voodoo_ops.specs.declared.op.ProgramKind.{ProgramKind}
+use Rattle.voodoo_ops.specs.declared.op.ProgramKind.TheVariants.{TooManyStatements}
+use Rattle.voodoo_ops.specs.Vectors.{Label, Vector, Env, nothing, put, known}
+use Rattle.voodoo_ops.specs.Meaning.{effect, after_effect, step, mentioned, is_persist, has_name, reach_if, reached, is_reached}
+use Rattle.voodoo_ops.specs.Check.{Outline, Shapes, outlines, outline_of, add_shape, made_outline, Known, Fault, fault, Checked, learn, known_behind, fault_of, first_fault, op_tests, after_fault, then_check, check_from, at_start, shape_of, names_result, limit_from}
+use Rattle.voodoo_ops.specs.Fits.{Fits, CanShow, CanShowAll, Runnable}
+use Rattle.voodoo_ops.proofs.Marks.{has_name-append}
+use Rattle.voodoo_ops.proofs.ShapeLaws.{all_short}
+use Rattle.voodoo_ops.proofs.Outlining.{Agree, made_same, tests_same, outline_made, outlines-put}
+use Rattle.voodoo_ops.proofs.Fitting.{clear_of}
+
+abbrev pub AllShort : List Outline → Type 0
+AllShort shape = (k : ℕ) (d : Outline) → k < length shape → (get_or shape k d).len ≤ 2 ^ 22
+
+-- the rest of a program passes the check from what is known, and the vectors that it wants are there as they are known
+pub record Ready (store env : Env) (rest : List Statement) : Type 0 where
+  pub known : Known
+  pub after : Known
+  pub passes : check_from (outlines store) rest known ≡ Ok after
+  pub small : AllShort after.shape
+  pub agree : (m : Label) → has_name (reached [] rest).names m ≡ true → outlines env m ≡ known.vectors m
+
+-- ---- one statement of a check that passes
+
+passed : (T : Shapes) (rest : List Statement) (known next after : Known) (o : Option ProgramKind) → then_check (after_fault known next o) (check_from T rest) ≡ Ok after → (o ≡ None) × (check_from T rest next ≡ Ok after)
+passed T rest known next after None e = (refl, e)
+passed T rest known next after (Some kind) e = absurd cc
+
+front_clear : (l : List (Bool × ProgramKind)) (t : Bool × ProgramKind) → first_fault (l ++ t ∷ []) ≡ None → first_fault l ≡ None
+front_clear [] t e = refl
+front_clear (u ∷ l) t e = by u.0 e (front_clear l t)
+  where
+    by : (b : Bool) → (if b then Some u.1 else first_fault (l ++ t ∷ [])) ≡ None → (first_fault (l ++ t ∷ []) ≡ None → first_fault l ≡ None) → (if b then Some u.1 else first_fault l) ≡ None
+    by true h rest = absurd cc
+    by false h rest = rest h
+
+-- what is known later begins with what is known now
+pub record Grows (now later : List Outline) : Type 0 where
+  pub more : List Outline
+  pub is : later ≡ now ++ more
+
+append_none : (xs : List Outline) → xs ≡ xs ++ []
+append_none [] = refl
+append_none (x ∷ xs) = ap (λ (l : List Outline). x ∷ l) (append_none xs)
+
+grows_none : (xs ys : List Outline) → ys ≡ xs → Grows xs ys
+grows_none xs ys e = record { more = []; is = e ∙ append_none xs }
+
+grows_then : (xs ys zs : List Outline) (o : Outline) → ys ≡ xs ++ o ∷ [] → Grows ys zs → Grows xs zs
+grows_then xs ys zs o e g = record { more = o ∷ g.more; is = g.is ∙ ap (λ (l : List Outline). l ++ g.more) e ∙ append_assoc xs (o ∷ []) g.more }
+
+shape_behind : (known : Known) (n : Label) (op : Op) (T V : Shapes) → (known_behind known n op (made_outline T V op)).shape ≡ known.shape ++ made_outline T V op ∷ []
+shape_behind known n (Load t) T V = refl
+shape_behind known n (Persist a) T V = refl
+shape_behind known n (Range size p control) T V = refl
+shape_behind known n (Zip a b) T V = refl
+shape_behind known n (Divide p) T V = refl
+shape_behind known n (FoldSum f) T V = refl
+
+pub grows : (T : Shapes) (rest : List Statement) (known after : Known) → check_from T rest known ≡ Ok after → Grows known.shape after.shape
+grows T [] known after e = let same : known ≡ after = cc in grows_none known.shape after.shape (ap (λ (k : Known). k.shape) (sym same))
+grows T (s ∷ rest) known after e =
+    let next = learn T known s.name s.op in
+    let p = passed T rest known next after (fault_of T known s.name s.op) e in
+    grows_then known.shape next.shape after.shape (made_outline T known.vectors s.op) (shape_behind known s.name s.op T known.vectors) (grows T rest next after p.1)
+
+place_of_end : (xs more : List Outline) (o d : Outline) → (length xs < length ((xs ++ o ∷ []) ++ more)) × (get_or ((xs ++ o ∷ []) ++ more) (length xs) d ≡ o)
+place_of_end [] more o d = (omega arith, refl)
+place_of_end (x ∷ xs) more o d = let r = place_of_end xs more o d in (omega (arith, r.0), r.1)
+
+short_one : (xs ys after : List Outline) (o : Outline) → ys ≡ xs ++ o ∷ [] → Grows ys after → AllShort after → o.len ≤ 2 ^ 22
+short_one xs ys after o e g h =
+    let is : after ≡ (xs ++ o ∷ []) ++ g.more = g.is ∙ ap (λ (l : List Outline). l ++ g.more) e in
+    let p = place_of_end xs g.more o o in
+    let within : length xs < length after = rw is p.0 in
+    let here : get_or after (length xs) o ≡ o = ap (λ (l : List Outline). get_or l (length xs) o) is ∙ p.1 in
+    subst (λ (q : Outline). q.len ≤ 2 ^ 22) here (h (length xs) o within)
+
+-- ---- names that are mentioned
+
+bytes_eq-refl : (a : Label) → bytes_eq a a ≡ true
+bytes_eq-refl a = (bytes_eq-Decides a a).1 refl
+
+or_true : (b : Bool) → (b || true) ≡ true
+or_true true = refl
+or_true false = refl
+
+agree_of : (V W : Shapes) (names : List Label) → ((m : Label) → has_name names m ≡ true → V m ≡ W m) → Agree V W names
+agree_of V W [] h = tt
+agree_of V W (a ∷ names) h =
+    (h a (ap (λ (b : Bool). b || has_name names a) (bytes_eq-refl a)), agree_of V W names (λ m e. h m (ap (λ (b : Bool). bytes_eq a m || b) e ∙ or_true (bytes_eq a m))))
+
+names_kept : (s : Statement) (rest : List Statement) → is_reached (reached [] rest).names s ≡ true → (reached [] (s ∷ rest)).names ≡ mentioned s.op ++ (reached [] rest).names
+names_kept s rest on = ap (λ (b : Bool). (reach_if b s (reached [] rest)).names) on
+
+names_left : (s : Statement) (rest : List Statement) → is_reached (reached [] rest).names s ≡ false → (reached [] (s ∷ rest)).names ≡ (reached [] rest).names
+names_left s rest off = ap (λ (b : Bool). (reach_if b s (reached [] rest)).names) off
+
+mentions_agree : (store env : Env) (s : Statement) (rest : List Statement) (r : Ready store env (s ∷ rest)) → is_reached (reached [] rest).names s ≡ true → Agree (outlines env) r.known.vectors (mentioned s.op)
+mentions_agree store env s rest r on =
+    agree_of (outlines env) r.known.vectors (mentioned s.op)
+    (λ m e. r.agree m (ap (λ (l : List Label). has_name l m) (names_kept s rest on) ∙ has_name-append (mentioned s.op) (reached [] rest).names m ∙ ap (λ (b : Bool). b || has_name (reached [] rest).names m) e))
+
+-- ---- a statement that is kept may be run
+
+pub ready_fits : (store env : Env) (s : Statement) (rest : List Statement) → Ready store env (s ∷ rest) → is_reached (reached [] rest).names s ≡ true → Fits (outlines store) (outlines env) s.op
+ready_fits store env s rest r on =
+    let T = outlines store in
+    let next = learn T r.known s.name s.op in
+    let p = passed T rest r.known next r.after (fault_of T r.known s.name s.op) r.passes in
+    let same = mentions_agree store env s rest r on in
+    record {
+      sound = ap first_fault (tests_same T (outlines env) r.known.vectors s.op same) ∙ front_clear (op_tests T r.known.vectors s.op) _ p.0;
+      small = subst (λ (o : Outline). o.len ≤ 2 ^ 22) (sym (made_same T (outlines env) r.known.vectors s.op same)) (short_one r.known.shape next.shape r.after.shape (made_outline T r.known.vectors s.op) (shape_behind r.known s.name s.op T r.known.vectors) (grows T rest next r.after p.1) r.small);
+    }
+
+-- ---- behind one more statement
+
+pub learned : (T : Shapes) (known : Known) (n m : Label) (op : Op) → is_persist op ≡ false → (learn T known n op).vectors m ≡ add_shape known.vectors n (made_outline T known.vectors op) m
+learned T known n m (Load t) e = refl
+learned T known n m (Persist a) e = absurd cc
+learned T known n m (Range size p control) e = refl
+learned T known n m (Zip a b) e = refl
+learned T known n m (Divide p) e = refl
+learned T known n m (FoldSum f) e = refl
+
+pub learned_result : (T : Shapes) (known : Known) (n m : Label) (op : Op) → is_persist op ≡ true → (learn T known n op).vectors m ≡ known.vectors m
+learned_result T known n m (Load t) e = absurd cc
+learned_result T known n m (Persist a) e = refl
+learned_result T known n m (Range size p control) e = absurd cc
+learned_result T known n m (Zip a b) e = absurd cc
+learned_result T known n m (Divide p) e = absurd cc
+learned_result T known n m (FoldSum f) e = absurd cc
+
+pub no_effect : (store env : Env) (op : Op) → effect store env op ≡ None → is_persist op ≡ true
+no_effect store env (Load t) e = absurd cc
+no_effect store env (Persist a) e = refl
+no_effect store env (Range size p control) e = absurd cc
+no_effect store env (Zip a b) e = absurd cc
+no_effect store env (Divide p) e = absurd cc
+no_effect store env (FoldSum f) e = absurd cc
+
+pub some_effect : (store env : Env) (op : Op) (r : Result Vector Over) → effect store env op ≡ Some r → is_persist op ≡ false
+some_effect store env (Load t) r e = refl
+some_effect store env (Persist a) r e = absurd cc
+some_effect store env (Range size p control) r e = refl
+some_effect store env (Zip a b) r e = refl
+some_effect store env (Divide p) r e = refl
+some_effect store env (FoldSum f) r e = refl
+
+pub put_agrees : (env : Env) (V : Shapes) (n m : Label) (v : Vector) (o : Outline) → outline_of v ≡ o → outlines env m ≡ V m → outlines (put env n v) m ≡ add_shape V n o m
+put_agrees env V n m v o e h = outlines-put env n v m ∙ by (bytes_eq n m)
+  where
+    by : (b : Bool) → (if b then Some (outline_of v) else outlines env m) ≡ (if b then Some o else V m)
+    by true = ap (λ (p : Outline). Some p) e
+    by false = h
+
+pub ready_next : (store env now : Env) (s : Statement) (rest : List Statement) → Ready store env (s ∷ rest) → is_reached (reached [] rest).names s ≡ true → step store env s.name s.op ≡ Ok now → Ready store now rest
+ready_next store env now s rest r on e = go (effect store env s.op) refl e
+  where
+    T : Shapes
+    T = outlines store
+
+    next : Known
+    next = learn (outlines store) r.known s.name s.op
+
+    p : (fault_of (outlines store) r.known s.name s.op ≡ None) × (check_from (outlines store) rest next ≡ Ok r.after)
+    p = passed (outlines store) rest r.known next r.after (fault_of (outlines store) r.known s.name s.op) r.passes
+
+    kept : (m : Label) → has_name (reached [] rest).names m ≡ true → outlines env m ≡ r.known.vectors m
+    kept m h = r.agree m (ap (λ (l : List Label). has_name l m) (names_kept s rest on) ∙ has_name-append (mentioned s.op) (reached [] rest).names m ∙ ap (λ (b : Bool). has_name (mentioned s.op) m || b) h ∙ or_true (has_name (mentioned s.op) m))
+
+    go : (o : Option (Result Vector Over)) → effect store env s.op ≡ o → after_effect env s.name o ≡ Ok now → Ready store now rest
+    go None q f =
+        let same : env ≡ now = cc in
+        subst (λ (k : Env). Ready store k rest) same (record {
+          known = next;
+          after = r.after;
+          passes = p.1;
+          small = r.small;
+          agree = λ m h. kept m h ∙ sym (learned_result (outlines store) r.known s.name m s.op (no_effect store env s.op q));
+        })
+    go (Some (Err x)) q f = absurd cc
+    go (Some (Ok v)) q f =
+        let same : put env s.name v ≡ now = cc in
+        let made : outline_of v ≡ made_outline (outlines store) r.known.vectors s.op = outline_made store env s.op (Ok v) v q refl ∙ made_same (outlines store) (outlines env) r.known.vectors s.op (mentions_agree store env s rest r on) in
+        subst (λ (k : Env). Ready store k rest) same (record {
+          known = next;
+          after = r.after;
+          passes = p.1;
+          small = r.small;
+          agree = λ m h. put_agrees env r.known.vectors s.name m v (made_outline (outlines store) r.known.vectors s.op) made (kept m h) ∙ sym (learned (outlines store) r.known s.name m s.op (some_effect store env s.op (Ok v) q));
+        })
+
+-- a statement that is not kept
+or_left : (a b : Bool) → (a || b) ≡ false → (a ≡ false) × (b ≡ false)
+or_left true b e = absurd cc
+or_left false b e = (refl, e)
+
+apart_name : (names : List Label) (n m : Label) → has_name names n ≡ false → has_name names m ≡ true → bytes_eq n m ≡ false
+apart_name names n m off on = by (bytes_eq n m) refl
+  where
+    by : (b : Bool) → bytes_eq n m ≡ b → b ≡ false
+    by true e = let same : n ≡ m = (bytes_eq-Decides n m).0 e in absurd (false≢true (sym off ∙ ap (has_name names) same ∙ on))
+    by false e = refl
+
+pub ready_skip : (store env : Env) (s : Statement) (rest : List Statement) → Ready store env (s ∷ rest) → is_reached (reached [] rest).names s ≡ false → Ready store env rest
+ready_skip store env s rest r off =
+    let T = outlines store in
+    let next = learn T r.known s.name s.op in
+    let p = passed T rest r.known next r.after (fault_of T r.known s.name s.op) r.passes in
+    let parts = or_left (is_persist s.op) (has_name (reached [] rest).names s.name) off in
+    record {
+      known = next;
+      after = r.after;
+      passes = p.1;
+      small = r.small;
+      agree = λ m h.
+          r.agree m (ap (λ (l : List Label). has_name l m) (names_left s rest off) ∙ h)
+          ∙ sym (learned T r.known s.name m s.op parts.0 ∙ ap (λ (b : Bool). if b then Some (made_outline T r.known.vectors s.op) else r.known.vectors m) (apart_name (reached [] rest).names s.name m parts.1 h));
+    }
+
+-- ---- at the start
+
+checked_is : (named : Bool) (c : Checked) (shape : List Outline) → shape_of named c ≡ Ok shape → (k : Known) × (c ≡ Ok k) × (k.shape ≡ shape)
+checked_is named (Err e) shape h = absurd cc
+checked_is true (Ok k) shape h = (k, refl, cc)
+checked_is false (Ok k) shape h = absurd cc
+
+pub ready_start : (store : Env) (program : List Statement) → Runnable store program → Ready store nothing program
+ready_start store program r = by (nat_lt 65536 (length program)) r.passes
+  where
+    few : (b : Bool) (x : Fault) (c : Result (List Outline) Fault) → (if b then Err x else c) ≡ Ok r.shape → c ≡ Ok r.shape
+    few true x c e = absurd cc
+    few false x c e = e
+
+    by : (b : Bool) → (if b then Err (fault 65537 TooManyStatements) else shape_of (names_result program) (check_from (outlines store) program at_start)) ≡ Ok r.shape → Ready store nothing program
+    by b e =
+        let c = checked_is (names_result program) (check_from (outlines store) program at_start) r.shape (few b (fault 65537 TooManyStatements) (shape_of (names_result program) (check_from (outlines store) program at_start)) e) in
+        record {
+          known = at_start;
+          after = c.0;
+          passes = c.1;
+          small = λ k d h. all_short 1 c.0.shape (ap (limit_from 1) c.2 ∙ r.small) k d h;
+          agree = λ m h. refl;
+        }
+
+-- ---- results
+
+some_put : (env : Env) (n m : Label) (v : Vector) → is_some (env m) ≡ true → is_some (put env n v m) ≡ true
+some_put env n m v h = by (bytes_eq n m)
+  where
+    by : (b : Bool) → is_some (if b then Some v else env m) ≡ true
+    by true = refl
+    by false = h
+
+show_put : (env : Env) (n : Label) (v : Vector) (op : Op) → CanShow env op → CanShow (put env n v) op
+show_put env n v (Load t) h = tt
+show_put env n v (Persist a) h = some_put env n a v h
+show_put env n v (Range size p control) h = tt
+show_put env n v (Zip a b) h = tt
+show_put env n v (Divide p) h = tt
+show_put env n v (FoldSum f) h = tt
+
+shows_put : (env : Env) (n : Label) (v : Vector) (l : List Statement) → CanShowAll env l → CanShowAll (put env n v) l
+shows_put env n v [] h = tt
+shows_put env n v (s ∷ l) h = (show_put env n v s.op h.0, shows_put env n v l h.1)
+
+shows_after : (env now : Env) (n : Label) (o : Option (Result Vector Over)) (l : List Statement) → after_effect env n o ≡ Ok now → CanShowAll env l → CanShowAll now l
+shows_after env now n None l e h = let same : env ≡ now = cc in subst (λ (k : Env). CanShowAll k l) same h
+shows_after env now n (Some (Err x)) l e h = absurd cc
+shows_after env now n (Some (Ok v)) l e h = let same : put env n v ≡ now = cc in subst (λ (k : Env). CanShowAll k l) same (shows_put env n v l h)
+
+shows_end : (env : Env) (l : List Statement) (s : Statement) → CanShowAll env l → CanShow env s.op → CanShowAll env (l ++ s ∷ [])
+shows_end env [] s h k = (k, tt)
+shows_end env (t ∷ l) s h k = (h.0, shows_end env l s h.1 k)
+
+-- the vector that a Persist names is there when it is met
+some_shape : (o : Option Vector) → is_none (option_map outline_of o) ≡ false → is_some o ≡ true
+some_shape None e = absurd cc
+some_shape (Some v) e = refl
+
+can_show : (store env : Env) (op : Op) → Fits (outlines store) (outlines env) op → CanShow env op
+can_show store env (Load t) f = tt
+can_show store env (Persist a) f = some_shape (env a) (or_left (is_none (outlines env a)) false (clear_of (outlines store) (outlines env) (Persist a) f.sound).names).0
+can_show store env (Range size p control) f = tt
+can_show store env (Zip a b) f = tt
+can_show store env (Divide p) f = tt
+can_show store env (FoldSum f) g = tt
+
+show_step : (env now : Env) (n : Label) (op : Op) (o : Option (Result Vector Over)) → after_effect env n o ≡ Ok now → CanShow env op → CanShow now op
+show_step env now n op None e h = let same : env ≡ now = cc in subst (λ (k : Env). CanShow k op) same h
+show_step env now n op (Some (Err x)) e h = absurd cc
+show_step env now n op (Some (Ok v)) e h = let same : put env n v ≡ now = cc in subst (λ (k : Env). CanShow k op) same (show_put env n v op h)
+
+-- the statements so far and those that are left
+pub record Shown (env : Env) (whole left : List Statement) : Type 0 where
+  pub done : List Statement
+  pub is : whole ≡ done ++ left
+  pub shows : CanShowAll env done
+
+pub shown_start : (env : Env) (whole left : List Statement) → whole ≡ left → Shown env whole left
+shown_start env whole left e = record { done = []; is = e; shows = tt }
+
+pub shown_next : (store env now : Env) (whole left rest : List Statement) (s : Statement) → left ≡ s ∷ rest → Fits (outlines store) (outlines env) s.op → step store env s.name s.op ≡ Ok now → Shown env whole left → Shown now whole rest
+shown_next store env now whole left rest s e f h sh = record {
+  done = sh.done ++ s ∷ [];
+  is = sh.is ∙ ap (λ (l : List Statement). sh.done ++ l) e ∙ sym (append_assoc sh.done (s ∷ []) rest);
+  shows = shows_end now sh.done s (shows_after env now s.name (effect store env s.op) sh.done h sh.shows) (show_step env now s.name s.op (effect store env s.op) h (can_show store env s.op f));
+}
+
+append_empty : (xs : List Statement) → xs ++ [] ≡ xs
+append_empty [] = refl
+append_empty (x ∷ xs) = ap (λ (l : List Statement). x ∷ l) (append_empty xs)
+
+pub shown_end : (env : Env) (whole left : List Statement) → left ≡ [] → Shown env whole left → CanShowAll env whole
+shown_end env whole left e sh = subst (CanShowAll env) (sym (sh.is ∙ ap (λ (l : List Statement). sh.done ++ l) e ∙ append_empty sh.done)) sh.shows

@@ -1,0 +1,106 @@
+-- Where the runs of a vector's attributes begin.
+use Rattle.std.proofs.Common.{◌≡◌, ℕ, zero, suc, ◌+◌, ◌-◌, ◌<◌, ◌≤◌, List, [], ◌∷◌, Bool, true, false, ◌||◌, ◌&&◌, not, if◌then◌else◌, refl, ap, sym, ◌∙◌, length, take, set, get_or, arith, Some, None, inl, inr}
+use Rattle.std.proofs.lemmas.Bool.{cases_lt}
+use Rattle.std.specs.Prelude.{slice_get}
+use Rattle.std.specs.List.{list_any}
+use Rattle.std.proofs.lemmas.List.{take_more, length-map, get_or-set_other, get_or-set_same}
+use Rattle.std.proofs.lemmas.List.Folds.{list_any-append}
+use Rattle.std.proofs.lemmas.Option.{get_or_from_slice_get}
+use Rattle.control_vectors.specs.Slots.{Slot}
+use Rattle.key_paths.specs.Substructures.{is_at_or_below}
+use Rattle.struct_vectors.specs.Columns.{ColumnValue}
+use Rattle.struct_vectors.specs.Vectors.{paths_of, columns_of, HaveLength}
+use Rattle.voodoo_ops.specs.Vectors.{Label, Attribute, seen_attributes}
+use Rattle.voodoo_ops.specs.Runs.{slot_eq, below, differs, changes_below}
+
+or_false : (b : Bool) → (b || false) ≡ b
+or_false true = refl
+or_false false = refl
+
+or_true : (b : Bool) → (b || true) ≡ true
+or_true true = refl
+or_true false = refl
+
+or_assoc : (a b c : Bool) → ((a || b) || c) ≡ (a || (b || c))
+or_assoc true b c = refl
+or_assoc false b c = refl
+
+list_any-filter : (p : Label) (i : ℕ) (ts : List Attribute) → list_any (λ t. differs t.1 i) (below p ts) ≡ list_any (λ t. changes_below p t i) ts
+list_any-filter p i [] = refl
+list_any-filter p i (t ∷ ts) = by (is_at_or_below t.0 p) (list_any-filter p i ts)
+  where
+    by : (b : Bool) → list_any (λ u. differs u.1 i) (below p ts) ≡ list_any (λ u. changes_below p u i) ts → list_any (λ u. differs u.1 i) (if b then t ∷ below p ts else below p ts) ≡ ((b && differs t.1 i) || list_any (λ u. changes_below p u i) ts)
+    by true e = ap (λ (x : Bool). differs t.1 i || x) e
+    by false e = e
+
+-- one more attribute
+pub changes_more : (p : Label) (ts : List Attribute) (k i : ℕ) → k < length ts → list_any (λ t. differs t.1 i) (below p (take (k + 1) ts)) ≡ (list_any (λ t. differs t.1 i) (below p (take k ts)) || changes_below p (get_or ts k ([], [])) i)
+changes_more p ts k i h =
+    list_any-filter p i (take (k + 1) ts)
+    ∙ ap (list_any (λ t. changes_below p t i)) (take_more ts k ([], []) h)
+    ∙ list_any-append (λ t. changes_below p t i) (take k ts) (get_or ts k ([], []) ∷ [])
+    ∙ ap (λ (b : Bool). list_any (λ t. changes_below p t i) (take k ts) || b) (or_false (changes_below p (get_or ts k ([], [])) i))
+    ∙ ap (λ (b : Bool). b || changes_below p (get_or ts k ([], [])) i) (sym (list_any-filter p i (take k ts)))
+
+pub length_seen : (attributes : List (Label × ColumnValue)) → length (seen_attributes attributes) ≡ length attributes
+length_seen attributes = length-map attributes (λ a. (a.0, a.1.slots))
+
+-- an attribute at a place, by its path and its column
+attribute_at : (attributes : List (Label × ColumnValue)) (k : ℕ) (p : Label) (c : ColumnValue) → k < length attributes → p ≡ get_or (paths_of attributes) k p → c ≡ get_or (columns_of attributes) k c → let t : Attribute = (p, c.slots) in get_or (seen_attributes attributes) k ([], []) ≡ t
+attribute_at [] k p c h ep ec = absurd (omega arith)
+attribute_at (a ∷ attributes) zero p c h ep ec = rw (ep, ec) refl
+attribute_at (a ∷ attributes) (suc k) p c h ep ec = attribute_at attributes k p c (omega arith) ep ec
+
+path_at : (attributes : List (Label × ColumnValue)) (k : ℕ) (p : Label) → k < length attributes → p ≡ get_or (paths_of attributes) k p → (get_or (seen_attributes attributes) k ([], [])).0 ≡ p
+path_at [] k p h ep = absurd (omega arith)
+path_at (a ∷ attributes) zero p h ep = sym ep
+path_at (a ∷ attributes) (suc k) p h ep = path_at attributes k p (omega arith) ep
+
+pub column_length : (n : ℕ) (attributes : List (Label × ColumnValue)) (k : ℕ) (c : ColumnValue) → HaveLength n attributes → k < length attributes → c ≡ get_or (columns_of attributes) k c → length c.slots ≡ n
+column_length n [] k c each h ec = absurd (omega arith)
+column_length n (a ∷ attributes) zero c each h ec = ap (λ (d : ColumnValue). length d.slots) ec ∙ each 0 a (omega arith)
+column_length n (a ∷ attributes) (suc k) c each h ec = column_length n attributes k c (λ i d l. each (suc i) d (omega arith)) (omega arith) ec
+
+pub changes_here : (attributes : List (Label × ColumnValue)) (k i : ℕ) (p q : Label) (c : ColumnValue) (old new : Bool) → k < length attributes → q ≡ get_or (paths_of attributes) k q → c ≡ get_or (columns_of attributes) k c → true ≡ is_at_or_below q p → new ≡ (old || differs c.slots i) → new ≡ (old || changes_below p (get_or (seen_attributes attributes) k ([], [])) i)
+changes_here attributes k i p q c old new h eq ec below now =
+    rw (attribute_at attributes k q c h eq ec, ← below) now
+
+pub changes_nowhere : (attributes : List (Label × ColumnValue)) (k i : ℕ) (p q : Label) (old : Bool) → k < length attributes → q ≡ get_or (paths_of attributes) k q → false ≡ is_at_or_below q p → old ≡ (old || changes_below p (get_or (seen_attributes attributes) k ([], [])) i)
+changes_nowhere attributes k i p q old h eq off =
+    rw (path_at attributes k q h eq, ← off) (sym (or_false old))
+
+-- ---- the changes of one column
+slot_is : (xs : List Slot) (i : ℕ) (s : Slot) → slice_get xs i ≡ Some s → get_or xs i None ≡ s
+slot_is xs i s e = get_or_from_slice_get xs i s None e
+
+pub differs_is : (xs : List Slot) (i : ℕ) (s t : Slot) → slice_get xs i ≡ Some s → slice_get xs (i - 1) ≡ Some t → differs xs i ≡ not (slot_eq s t)
+differs_is xs i s t e f = rw (slot_is xs i s e, slot_is xs (i - 1) t f) refl
+
+pub length_paths : (attributes : List (Label × ColumnValue)) → length (paths_of attributes) ≡ length attributes
+length_paths attributes = length-map attributes (λ a. a.0)
+
+-- what one more place makes of the marks
+pub record Marking (old now : List Bool) (xs : List Slot) (i : ℕ) : Type 0 where
+  pub first : get_or now 0 false ≡ get_or old 0 false
+  pub done : (k : ℕ) → 0 < k → k < i → get_or now k false ≡ (get_or old k false || differs xs k)
+  pub left : (k : ℕ) → i ≤ k → get_or now k false ≡ get_or old k false
+
+pub marking_set : (old now : List Bool) (xs : List Slot) (i : ℕ) → 1 ≤ i → i < length now → Marking old now xs i → differs xs i ≡ true → Marking old (set now i true) xs (i + 1)
+marking_set old now xs i low h m e = record {
+  first = get_or-set_other now i 0 true false (omega arith) ∙ m.first;
+  done = λ k l r. elim (cases_lt k i) [
+    | inl less ↦ get_or-set_other now i k true false (omega arith) ∙ m.done k l less
+    | inr more ↦ let same : k ≡ i = omega arith in rw (same, get_or-set_same now i true false h, e) (sym (or_true (get_or old i false)))
+  ];
+  left = λ k l. get_or-set_other now i k true false (omega arith) ∙ m.left k (omega arith);
+}
+
+pub marking_keep : (old now : List Bool) (xs : List Slot) (i : ℕ) → 1 ≤ i → Marking old now xs i → differs xs i ≡ false → Marking old now xs (i + 1)
+marking_keep old now xs i low m e = record {
+  first = m.first;
+  done = λ k l r. elim (cases_lt k i) [
+    | inl less ↦ m.done k l less
+    | inr more ↦ let same : k ≡ i = omega arith in rw (same, e) (m.left i (omega arith) ∙ sym (or_false (get_or old i false)))
+  ];
+  left = λ k l. m.left k (omega arith);
+}

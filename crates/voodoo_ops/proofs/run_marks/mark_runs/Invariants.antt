@@ -1,0 +1,12 @@
+use Rattle.std.proofs.Common.{◌≡◌, ℕ, ◌<◌, true, false, length, take, get_or}
+use Rattle.std.specs.List.{list_any}
+use Rattle.voodoo_ops.specs.Vectors.{seen_attributes}
+use Rattle.voodoo_ops.specs.Runs.{below, differs}
+use Rattle.voodoo_ops.proofs.run_marks.mark_runs.Given as goal
+
+abbrev pub invariant-loop-k : goal.invariant-loop-k
+invariant-loop-k l = record {
+  each : length l.marks ≡ l.v.length;
+  first : 0 < length l.marks → get_or l.marks 0 false ≡ true;
+  later : (i : ℕ) → 0 < i → i < length l.marks → get_or l.marks i false ≡ list_any (λ t. differs t.1 i) (below l.run (take l.k (seen_attributes l.v.attributes)));
+}
