@@ -4,9 +4,9 @@ use Rattle.std.specs.Prelude.{Option, IfSome}
 use Rattle.std.proofs.KnownBytes.{Appends-nil, Keeps-refl}
 use Rattle.io_edge.specs.Shelves.{FileMap}
 use Rattle.voodoo_cmd.specs.declared.status.Status.{Status}
-use Rattle.voodoo_cmd.specs.declared.status.Status.TheVariants.{Done, Usage, ReadFault, WriteFault, SchemaRefused, LimitReached, NotYet, NoMemory}
+use Rattle.voodoo_cmd.specs.declared.status.Status.TheVariants.{Done, Usage, ReadFault, WriteFault, SchemaRefused, DataRefused, LimitReached, Overflow, NotYet, NoMemory}
 use Rattle.voodoo_cmd.specs.Outcomes.{Outcome, Meets}
-use Rattle.voodoo_cmd.specs.Expected.{Answers, Writes}
+use Rattle.voodoo_cmd.specs.Leaves.{Answers, Writes}
 
 writes : (text : List ℕ) (status : Status) (old new : Option (List ℕ)) → Writes text status old new → Answers (Ok text) status old new
 writes text Done old new h = h
@@ -16,7 +16,9 @@ writes text (ReadFault role) old new h = absurd h
 writes text (SchemaRefused at kind) old new h = absurd h
 writes text (LimitReached what number) old new h = absurd h
 writes text (NotYet role) old new h = absurd h
-writes text NoMemory old new h = absurd h
+writes text NoMemory old new h = h
+writes text (DataRefused table at_record at_column kind) old new h = absurd h
+writes text Overflow old new h = absurd h
 
 -- the text is there, and was written whole or in part
 pub Answers-written : {B : Type 0} (seen : B → List ℕ) (value : B) (holds : Option FileMap) (outcome : FileMap → Outcome (List ℕ)) (status : Status) (old new : Option (List ℕ))
@@ -32,6 +34,8 @@ refuses seen (Ok text) Done old (inr h) = elim h [ inl fault ↦ absurd fault | 
 refuses seen (Ok text) WriteFault old (inr h) = elim h [ inl fault ↦ absurd fault | inr e ↦ cc ]
 refuses seen (Ok text) (Usage kind) old (inr h) = elim h [ inl fault ↦ absurd fault | inr e ↦ cc ]
 refuses seen (Ok text) (SchemaRefused at kind) old (inr h) = elim h [ inl fault ↦ absurd fault | inr e ↦ cc ]
+refuses seen (Ok text) (DataRefused table at_record at_column kind) old (inr h) = elim h [ inl fault ↦ absurd fault | inr e ↦ cc ]
+refuses seen (Ok text) Overflow old (inr h) = elim h [ inl fault ↦ absurd fault | inr e ↦ cc ]
 refuses seen (Ok text) (LimitReached what number) old (inr h) = elim h [ inl fault ↦ absurd fault | inr e ↦ cc ]
 refuses seen (Ok text) (NotYet role) old (inr h) = elim h [ inl fault ↦ absurd fault | inr e ↦ cc ]
 refuses seen (Err refusal) status old (inl e) = (inl cc, Keeps-refl old)

@@ -1,2 +1,6 @@
 pub mod Folders
 pub mod Answered
+pub mod NarrowStores
+pub mod TablesLaws
+pub mod Limits
+pub mod SchemaFaults

@@ -1,26 +1,28 @@
 -- A run's files: each read in its role, up to its limit.
-use Rattle.std.specs.Prelude.{ℕ, ◌⊎◌, ◌≡◌, List, length, nat_le, Option, Ok, Err, if◌then◌else◌}
+use Rattle.std.specs.Prelude.{ℕ, ◌+◌, ◌^◌, ◌⊎◌, ◌≡◌, List, length, nat_le, Option, Ok, Err, if◌then◌else◌}
 use Rattle.io_edge.specs.Faults.{Rose}
 use Rattle.io_edge.specs.Shelves.{FileMap, Lacks}
 use Rattle.voodoo_cmd.specs.declared.status.FileRole.{FileRole}
-use Rattle.voodoo_cmd.specs.declared.status.FileRole.TheVariants.{Schema}
+use Rattle.voodoo_cmd.specs.declared.status.FileRole.TheVariants.{Schema, Table, Text}
 use Rattle.voodoo_cmd.specs.declared.status.LimitWhat.TheVariants.{File}
 use Rattle.voodoo_cmd.specs.declared.status.Status.{Status}
-use Rattle.voodoo_cmd.specs.declared.status.Status.TheVariants.{ReadFault, SchemaRefused, LimitReached, NotYet, NoMemory}
+use Rattle.voodoo_cmd.specs.declared.status.Status.TheVariants.{Done, Usage, ReadFault, WriteFault, SchemaRefused, DataRefused, LimitReached, Overflow, NotYet, NoMemory}
 use Rattle.voodoo_cmd.specs.Outcomes.{Outcome, or_refuse, ◌>>=◌}
 
 -- how long a file may be
-abbrev pub file_limit : ℕ
-file_limit = 65536
+abbrev pub file_limit : FileRole → ℕ
+file_limit Schema = 65536
+file_limit (Table k) = 2 ^ 28
+file_limit Text = 65536
 
--- a file that is longer: a schema passes its limit, and any other is not read yet
+-- a file that is longer: a schema and a table pass their limit, and a text is not read yet
 abbrev pub past_limit : FileRole → Status
-past_limit Schema = LimitReached (File Schema) 65537
-past_limit role = NotYet role
+past_limit Text = NotYet Text
+past_limit role = LimitReached (File role) (file_limit role + 1)
 
 -- bytes that are not too long
 abbrev pub within_limit : FileRole → List ℕ → Outcome (List ℕ)
-within_limit role bytes = if nat_le (length bytes) file_limit then Ok bytes else Err (past_limit role)
+within_limit role bytes = if nat_le (length bytes) (file_limit role) then Ok bytes else Err (past_limit role)
 
 -- the bytes of a file in its role
 abbrev pub file_in : FileMap → FileRole → List ℕ → Outcome (List ℕ)
@@ -33,6 +35,7 @@ HasFileCause holds role name before now (ReadFault r) = (r ≡ role) × (Rose be
 HasFileCause holds role name before now (NotYet r) = r ≡ role
 HasFileCause holds role name before now NoMemory = Unit {0}
 HasFileCause holds role name before now (SchemaRefused at kind) = Unit {0}
+HasFileCause holds role name before now (DataRefused table at_record at_column kind) = Unit {0}
 HasFileCause holds role name before now (LimitReached what number) = Unit {0}
 HasFileCause holds role name before now _ = ⊥
 
@@ -41,3 +44,29 @@ abbrev pub IsSchemaRefusal : Status → Type 0
 IsSchemaRefusal (SchemaRefused at kind) = Unit {0}
 IsSchemaRefusal NoMemory = Unit {0}
 IsSchemaRefusal _ = ⊥
+
+-- a refusal of a table's data, or want of memory
+abbrev pub IsDataRefusal : Status → Type 0
+IsDataRefusal (DataRefused table at_record at_column kind) = Unit {0}
+IsDataRefusal NoMemory = Unit {0}
+IsDataRefusal _ = ⊥
+
+-- a text that is not read yet, or want of memory
+abbrev pub IsTextRefusal : Status → Type 0
+IsTextRefusal (NotYet Text) = Unit {0}
+IsTextRefusal NoMemory = Unit {0}
+IsTextRefusal _ = ⊥
+
+-- a number that leaves 128 bits, or want of memory
+abbrev pub IsRunRefusal : Status → Type 0
+IsRunRefusal Overflow = Unit {0}
+IsRunRefusal NoMemory = Unit {0}
+IsRunRefusal _ = ⊥
+
+-- the statuses of a step that reads files
+abbrev pub IsFileRefusal : Status → Type 0
+IsFileRefusal Done = ⊥
+IsFileRefusal (Usage kind) = ⊥
+IsFileRefusal WriteFault = ⊥
+IsFileRefusal Overflow = ⊥
+IsFileRefusal _ = Unit {0}

@@ -3,4 +3,9 @@ pub mod Outcomes
 pub mod Words
 pub mod Paths
 pub mod Inputs
+pub mod Steps
+pub mod Reads
+pub mod Narrow
 pub mod Expected
+pub mod Leaves
+pub mod Gives

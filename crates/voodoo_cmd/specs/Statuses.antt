@@ -6,6 +6,8 @@ use Rattle.sql_read.specs.declared.refusal.SqlKind.{SqlKind}
 use Rattle.sql_read.specs.declared.refusal.SqlKind.TheVariants as sql
 use Rattle.sql_types.specs.declared.refusal.SchemaKind.{SchemaKind}
 use Rattle.sql_types.specs.declared.refusal.SchemaKind.TheVariants as catalog
+use Rattle.table_load.specs.declared.refusal.DataKind.{DataKind}
+use Rattle.table_load.specs.declared.refusal.DataKind.TheVariants as loading
 use Rattle.voodoo_cmd.specs.declared.status.UsageKind.TheVariants.{Words}
 use Rattle.voodoo_cmd.specs.declared.status.FileRole.{FileRole}
 use Rattle.voodoo_cmd.specs.declared.status.FileRole.TheVariants.{Schema, Table, Text}
@@ -14,7 +16,7 @@ use Rattle.voodoo_cmd.specs.declared.status.SchemaCause.TheVariants as cause
 use Rattle.voodoo_cmd.specs.declared.status.LimitWhat.{LimitWhat}
 use Rattle.voodoo_cmd.specs.declared.status.LimitWhat.TheVariants as limit
 use Rattle.voodoo_cmd.specs.declared.status.Status.{Status}
-use Rattle.voodoo_cmd.specs.declared.status.Status.TheVariants.{Done, Usage, ReadFault, WriteFault, SchemaRefused, LimitReached, NotYet, NoMemory}
+use Rattle.voodoo_cmd.specs.declared.status.Status.TheVariants.{Done, Usage, ReadFault, WriteFault, SchemaRefused, DataRefused, LimitReached, Overflow, NotYet, NoMemory}
 
 abbrev pub status_code : Status → ℕ
 status_code Done = 0
@@ -22,7 +24,9 @@ status_code (Usage kind) = 2
 status_code (ReadFault role) = 3
 status_code WriteFault = 4
 status_code (SchemaRefused at kind) = 5
+status_code (DataRefused table at_record at_column kind) = 6
 status_code (LimitReached what number) = 10
+status_code Overflow = 11
 status_code NoMemory = 12
 status_code (NotYet role) = 13
 
@@ -56,11 +60,32 @@ abbrev pub schema_cause_name : SchemaCause → List ℕ
 schema_cause_name (cause.Text kind) = sql_kind_name kind
 schema_cause_name (cause.Catalog kind) = schema_kind_name kind
 
+abbrev pub data_kind_name : DataKind → List ℕ
+data_kind_name loading.Header = codes "Header"
+data_kind_name loading.TooManyRows = codes "TooManyRows"
+data_kind_name loading.FieldCount = codes "FieldCount"
+data_kind_name loading.NotInteger = codes "NotInteger"
+data_kind_name loading.IntegerRange = codes "IntegerRange"
+data_kind_name loading.NotDate = codes "NotDate"
+data_kind_name loading.NotText = codes "NotText"
+data_kind_name loading.TextTooLong = codes "TextTooLong"
+data_kind_name (loading.KeyTwice earlier) = codes "KeyTwice "
+
+-- a key that stands twice is followed by the earlier record's number
+abbrev pub data_kind_number : DataKind → List ℕ
+data_kind_number (loading.KeyTwice earlier) = decimal earlier
+data_kind_number kind = []
+
 abbrev pub line_end : List ℕ
 line_end = codes "\n"
 
 abbrev pub schema_line : ℕ → SchemaCause → List ℕ
 schema_line at kind = concat (codes "voodoo: schema: byte " ∷ decimal at ∷ codes ": " ∷ schema_cause_name kind ∷ line_end ∷ [])
+
+abbrev pub data_line : ℕ → ℕ → ℕ → DataKind → List ℕ
+data_line table at_record at_column kind = concat (
+    codes "voodoo: table " ∷ decimal table ∷ codes ": record " ∷ decimal at_record ∷ codes ": column " ∷ decimal at_column
+    ∷ codes ": " ∷ data_kind_name kind ∷ data_kind_number kind ∷ line_end ∷ [])
 
 abbrev pub file_limit_line : FileRole → ℕ → List ℕ
 file_limit_line role number = concat (codes "voodoo: limit: " ∷ role_name role ∷ codes ": " ∷ decimal number ∷ line_end ∷ [])
@@ -75,6 +100,8 @@ status_line (Usage Words) = codes "voodoo: usage: Words\n"
 status_line (ReadFault role) = codes "voodoo: cannot read " ++ role_name role ++ line_end
 status_line WriteFault = codes "voodoo: cannot write\n"
 status_line (SchemaRefused at kind) = schema_line at kind
+status_line (DataRefused table at_record at_column kind) = data_line table at_record at_column kind
 status_line (LimitReached what number) = limit_line what number
+status_line Overflow = codes "voodoo: overflow\n"
 status_line (NotYet role) = codes "voodoo: not yet: " ++ role_name role ++ line_end
 status_line NoMemory = codes "voodoo: out of memory\n"

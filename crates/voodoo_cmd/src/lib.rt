@@ -4,9 +4,11 @@
 mod inputs;
 mod line;
 mod paths;
+mod program_step;
+mod query_step;
+mod schema_step;
 mod status;
-mod steps;
-mod sum;
+mod tables_step;
 mod top;
 mod words;
 

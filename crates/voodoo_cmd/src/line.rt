@@ -4,13 +4,14 @@ ghost use Rattle.std.specs.Prelude.{◌≡◌, ◌++◌, OnOk, OnErr};
 ghost use Rattle.std.specs.Io.KnownBytes.{Appends};
 ghost use Rattle.io_edge.specs.Faults.{HasCause};
 ghost use Rattle.io_edge.specs.Sinks.{AppendsPrefix};
-ghost use Rattle.voodoo_cmd.specs.Statuses.{status_line, role_name, schema_line, file_limit_line, line_end, schema_cause_name, schema_kind_name, sql_kind_name};
+ghost use Rattle.voodoo_cmd.specs.Statuses.{status_line, role_name, schema_line, data_line, file_limit_line, line_end, schema_cause_name, schema_kind_name, sql_kind_name, data_kind_name, data_kind_number};
 
 use crate::status::{FileRole, LimitWhat, SchemaCause, Status, UsageKind};
 use io_edge::{Failed, Sink, write_all, write_pieces};
 use itoa::Buffer;
 use sql_read::SqlKind;
 use sql_types::SchemaKind;
+use table_load::DataKind;
 
 /// Writes the line of a status, and nothing for `Done`. Where it fails, a prefix of the line was
 /// written.
@@ -25,10 +26,17 @@ pub(crate) fn write_line<E: Sink>(err: &mut E, status: &Status) -> Result<(), Fa
         Status::ReadFault(role) => write_role_line(err, b"voodoo: cannot read ", role),
         Status::WriteFault => write_all(err, b"voodoo: cannot write\n"),
         Status::SchemaRefused { at, kind } => write_schema_line(err, *at, kind),
+        Status::DataRefused {
+            table,
+            at_record,
+            at_column,
+            kind,
+        } => write_data_line(err, *table, *at_record, *at_column, kind),
         Status::LimitReached {
             what: LimitWhat::File(role),
             number,
         } => write_limit_line(err, role, *number),
+        Status::Overflow => write_all(err, b"voodoo: overflow\n"),
         Status::NotYet(role) => write_role_line(err, b"voodoo: not yet: ", role),
         Status::NoMemory => write_all(err, b"voodoo: out of memory\n"),
     }
@@ -63,6 +71,44 @@ fn write_schema_line<E: Sink>(err: &mut E, at: u32, kind: &SchemaCause) -> Resul
     write_pieces(err, &[b"voodoo: schema: byte ", byte, b": ", name, b"\n"])
 }
 
+/// Writes the line of a table that is refused at a record and a column.
+fn write_data_line<E: Sink>(
+    err: &mut E,
+    table: u32,
+    at_record: u32,
+    at_column: u32,
+    kind: &DataKind,
+) -> Result<(), Failed>
+    ensures whole { OnOk result (Appends (E.written err.old) (E.written err.new) (data_line table at_record at_column kind.now)) }
+    ensures prefix { OnErr result (AppendsPrefix (E.written err.old) (E.written err.new) (data_line table at_record at_column kind.now)) }
+    ensures cause { HasCause (E.faults err.old) (E.faults err.new) result }
+{
+    let mut table_digits = Buffer::new();
+    let mut record_digits = Buffer::new();
+    let mut column_digits = Buffer::new();
+    let mut earlier_digits = Buffer::new();
+    let table = table_digits.format(table).as_bytes();
+    let row = record_digits.format(at_record).as_bytes();
+    let column = column_digits.format(at_column).as_bytes();
+    let name = data_kind_name(*kind).as_bytes();
+    let number = data_kind_number(*kind, &mut earlier_digits).as_bytes();
+    write_pieces(
+        err,
+        &[
+            b"voodoo: table ",
+            table,
+            b": record ",
+            row,
+            b": column ",
+            column,
+            b": ",
+            name,
+            number,
+            b"\n",
+        ],
+    )
+}
+
 /// Writes the line of a file that is longer than its limit.
 fn write_limit_line<E: Sink>(err: &mut E, role: &FileRole, number: u64) -> Result<(), Failed>
     ensures whole { OnOk result (Appends (E.written err.old) (E.written err.new) (file_limit_line role.now number)) }
@@ -85,6 +131,32 @@ fn write_limit_line<E: Sink>(err: &mut E, role: &FileRole, number: u64) -> Resul
             )
         }
         FileRole::Text => write_pieces(err, &[b"voodoo: limit: ", b"text", b": ", count, b"\n"]),
+    }
+}
+
+fn data_kind_name(kind: DataKind) -> &'static str
+    ensures { result.now ≡ data_kind_name kind }
+{
+    match kind {
+        DataKind::Header => "Header",
+        DataKind::TooManyRows => "TooManyRows",
+        DataKind::FieldCount => "FieldCount",
+        DataKind::NotInteger => "NotInteger",
+        DataKind::IntegerRange => "IntegerRange",
+        DataKind::NotDate => "NotDate",
+        DataKind::NotText => "NotText",
+        DataKind::TextTooLong => "TextTooLong",
+        DataKind::KeyTwice(_) => "KeyTwice ",
+    }
+}
+
+/// The number of the earlier record, where a key stands twice.
+fn data_kind_number(kind: DataKind, digits: &mut Buffer) -> &str
+    ensures { result.now ≡ data_kind_number kind }
+{
+    match kind {
+        DataKind::KeyTwice(earlier) => digits.format(earlier),
+        _ => "",
     }
 }
 

@@ -6,6 +6,7 @@ ghost use Rattle.voodoo_cmd.specs.Statuses.{status_code};
 use sql_read::SqlKind;
 use sql_types::SchemaKind;
 use std::alloc::AllocError;
+use table_load::DataKind;
 
 /// What is wrong with the words of the command line.
 #[derive(Clone, Copy, Debug, PartialEq, Eq)]
@@ -20,7 +21,7 @@ pub enum FileRole {
     Schema,
     /// The file of a table. Tables count from 1, in the schema's order.
     Table(u32),
-    /// The query.
+    /// The query, or the program.
     Text,
 }
 
@@ -51,8 +52,18 @@ pub enum Status {
     WriteFault,
     /// The schema is refused at a byte of its text, counted from 0.
     SchemaRefused { at: u32, kind: SchemaCause },
+    /// A table is refused at a record and a column. Tables count from 1, in the schema's order; data
+    /// records and columns from 1, where record 0 is the header and column 0 the record as a whole.
+    DataRefused {
+        table: u32,
+        at_record: u32,
+        at_column: u32,
+        kind: DataKind,
+    },
     /// A limit is passed. The number is the limit plus one.
     LimitReached { what: LimitWhat, number: u64 },
+    /// A number of the answer leaves 128 bits.
+    Overflow,
     /// That file is longer, or of another form, than what is understood today.
     NotYet(FileRole),
     /// Memory was refused.
@@ -70,7 +81,9 @@ impl Status {
             Status::ReadFault(_) => 3,
             Status::WriteFault => 4,
             Status::SchemaRefused { .. } => 5,
+            Status::DataRefused { .. } => 6,
             Status::LimitReached { .. } => 10,
+            Status::Overflow => 11,
             Status::NoMemory => 12,
             Status::NotYet(_) => 13,
         }

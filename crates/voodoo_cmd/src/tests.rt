@@ -65,18 +65,6 @@ fn gives(
     Ok(status.code() == code && out.bytes() == text.as_bytes() && err.bytes() == line.as_bytes())
 }
 
-/// A column `a` of so many rows of `1`, the first with that many zeros before it.
-fn ones(alloc: Global, zeros: usize, rows: usize) -> Result<String, AllocError> {
-    let mut text = String::from_str(alloc, "a\n")?;
-    for _ in 0..zeros {
-        text.push_str("0")?;
-    }
-    for _ in 0..rows {
-        text.push_str("1\n")?;
-    }
-    Ok(text)
-}
-
 /// A text, and blanks up to so many bytes.
 fn blanks_after(alloc: Global, start: &str, len: usize) -> Result<String, AllocError> {
     let mut text = String::from_str(alloc, start)?;
@@ -89,19 +77,18 @@ fn blanks_after(alloc: Global, start: &str, len: usize) -> Result<String, AllocE
 #[test]
 fn a_column_is_summed(rt: HostRuntime) -> Result<(), Fail> {
     let alloc = rt.alloc();
-    let longest = ones(alloc, 0, 32767)?;
     for (table, text) in [
         ("a\n1\n2\n3\n", "c1\n6\n"),
-        ("a\n-5\n3\n", "c1\n-2\n"),
+        ("A\r\n-5\r\n3", "c1\n-2\n"),
         ("a\n007\n-0\n", "c1\n7\n"),
         (
-            "a\n999999999999999999\n-1\n999999999999999999\n",
-            "c1\n1999999999999999997\n",
+            "a\n9223372036854775807\n-1\n9223372036854775807\n",
+            "c1\n18446744073709551613\n",
         ),
-        (longest.as_str(), "c1\n32767\n"),
+        ("a\n", "c1\n\"\"\n"),
     ] {
         let files = shelf_files(alloc, SCHEMA, table, QUERY)?;
-        assert!(rt; gives(alloc, WORDS, files, 0, text, "")?, "{text}");
+        assert!(rt; gives(alloc, WORDS, files, 0, text, "")?, "{table}");
     }
     Ok(())
 }
@@ -110,7 +97,6 @@ fn a_column_is_summed(rt: HostRuntime) -> Result<(), Fail> {
 fn the_first_refusal_is_the_answer(rt: HostRuntime) -> Result<(), Fail> {
     let alloc = rt.alloc();
     let one = "a\n1\n";
-    let too_long = ones(alloc, 1, 32767)?;
     let blanks = blanks_after(alloc, QUERY, 65537)?;
     for (schema, table, query, code, line) in [
         ("", one, QUERY, 3, "voodoo: cannot read schema\n"),
@@ -118,12 +104,18 @@ fn the_first_refusal_is_the_answer(rt: HostRuntime) -> Result<(), Fail> {
         (SCHEMA, one, "", 3, "voodoo: cannot read text\n"),
         (
             SCHEMA,
-            too_long.as_str(),
+            "b\n1\n",
             "",
-            13,
-            "voodoo: not yet: table 1\n",
+            6,
+            "voodoo: table 1: record 0: column 1: Header\n",
         ),
-        (SCHEMA, "b\n1\n", QUERY, 13, "voodoo: not yet: table 1\n"),
+        (
+            SCHEMA,
+            "a\n1\n2.5\n",
+            QUERY,
+            6,
+            "voodoo: table 1: record 2: column 1: NotInteger\n",
+        ),
         (SCHEMA, one, blanks.as_str(), 13, "voodoo: not yet: text\n"),
         (
             SCHEMA,
@@ -175,21 +167,110 @@ fn schemas_are_read_whole(rt: HostRuntime) -> Result<(), Fail> {
         ),
         (blanks.as_str(), 10, "", "voodoo: limit: schema: 65537\n"),
         (
-            "CREATE TABLE t (a DATE NOT NULL)",
+            "CREATE TABLE t (a CHAR(1) NOT NULL)",
             13,
             "",
-            "voodoo: not yet: schema\n",
-        ),
-        (
-            "CREATE TABLE t (a INT NOT NULL, b INT NOT NULL)",
-            13,
-            "",
-            "voodoo: not yet: schema\n",
+            "voodoo: not yet: text\n",
         ),
     ] {
         let files = shelf_files(alloc, schema, "a\n1\n2\n3\n", QUERY)?;
         assert!(rt; gives(alloc, WORDS, files, code, text, line)?, "{schema}");
     }
+    Ok(())
+}
+
+#[test]
+fn a_table_has_columns_of_all_kinds(rt: HostRuntime) -> Result<(), Fail> {
+    let alloc = rt.alloc();
+    let schema = "CREATE TABLE t (id INTEGER PRIMARY KEY, kind VARCHAR(9) NOT NULL, shipped DATE NOT NULL);";
+    for (table, code, text, line) in [
+        (
+            "id,kind,shipped\n5,\"a, b\",1970-01-01\n-7,c,9999-12-31\n",
+            0,
+            "c1\n-2\n",
+            "",
+        ),
+        (
+            "id,kind,shipped\n5,a,1970-01-01\n6,b,1900-02-29\n",
+            6,
+            "",
+            "voodoo: table 1: record 2: column 3: NotDate\n",
+        ),
+        (
+            "id,kind,shipped\n5,a,1970-01-01\n6,b,1970-01-01\n005,c,1970-01-01\n",
+            6,
+            "",
+            "voodoo: table 1: record 3: column 1: KeyTwice 1\n",
+        ),
+        (
+            "id,kind,shipped\n5,a\n",
+            6,
+            "",
+            "voodoo: table 1: record 1: column 0: FieldCount\n",
+        ),
+    ] {
+        let files = shelf_files(alloc, schema, table, "SELECT SUM(id) FROM t\n")?;
+        assert!(rt; gives(alloc, WORDS, files, code, text, line)?, "{table}");
+    }
+    Ok(())
+}
+
+/// The halves of a column, and their sum.
+const HALVES: &str = "t = Load(t)\nh = Divide(t.a, 2, .h)\nr = Range(t, .run, 0, 0, 0, 1)\nz = Zip(h, r)\ns = FoldSum(z, .h, .run, .s)\nPersist(out, s)\n";
+
+/// The greatest number of 128 bits, taken from each number, then added up in runs of two.
+const GREATEST: &str = "170141183460469231731687303715884105727";
+
+#[test]
+fn a_program_is_run(rt: HostRuntime) -> Result<(), Fail> {
+    let alloc = rt.alloc();
+    for (program, code, text, line) in [
+        (HALVES, 0, "out,3\nslot,.s\n0,2\n1,\n2,\n", ""),
+        // No statement that nobody reaches is run: the quotient by -1 would leave 128 bits.
+        (
+            "t = Load(t)\nx = Divide(-170141183460469231731687303715884105728, t.a, .x)\ny = Divide(x.x, -1, .y)\nPersist(t, t)\n",
+            0,
+            "t,3\nslot,.a\n0,1\n1,2\n2,3\n",
+            "",
+        ),
+        // A divisor of 0 gives an empty slot. Results stand in the order of their Persist statements.
+        (
+            "t = Load(t)\nz = Divide(t.a, 0, .z)\nPersist(b, z)\nPersist(a, t)\n",
+            0,
+            "b,3\nslot,.z\n0,\n1,\n2,\na,3\nslot,.a\n0,1\n1,2\n2,3\n",
+            "",
+        ),
+        ("t = Load(u)\nPersist(a, t)\n", 13, "", "voodoo: not yet: text\n"),
+        ("t = Load(t)\n", 13, "", "voodoo: not yet: text\n"),
+        ("t = Load( t)\nPersist(a, t)\n", 13, "", "voodoo: not yet: text\n"),
+        (
+            "r = Range(4194305, .r, 0, 1, 0, 1)\nPersist(a, r)\n",
+            13,
+            "",
+            "voodoo: not yet: text\n",
+        ),
+        ("", 3, "", "voodoo: cannot read text\n"),
+    ] {
+        let files = shelf_files(alloc, SCHEMA, "a\n1\n2\n3\n", program)?;
+        let words = "voodoo --db s.sql --mode algebra --text q.sql";
+        assert!(rt; gives(alloc, words, files, code, text, line)?, "{program}");
+    }
+    Ok(())
+}
+
+#[test]
+fn a_total_that_leaves_128_bits_is_overflow(rt: HostRuntime) -> Result<(), Fail> {
+    let alloc = rt.alloc();
+    let mut program = String::from_str(alloc, "t = Load(t)\nx = Divide(")?;
+    program.push_str(GREATEST)?;
+    program.push_str(", t.a, .x)\nr = Range(t, .run, 0, 0, 0, 1)\nz = Zip(x, r)\ns = FoldSum(z, .x, .run, .s)\nPersist(out, s)\n")?;
+    let words = "voodoo --db s.sql --mode algebra --text q.sql";
+    let over = "voodoo: overflow\n";
+    let files = shelf_files(alloc, SCHEMA, "a\n1\n1\n", program.as_str())?;
+    assert!(rt; gives(alloc, words, files, 11, "", over)?);
+    let text = "out,2\nslot,.s\n0,170141183460469231731687303715884105727\n1,\n";
+    let files = shelf_files(alloc, SCHEMA, "a\n1\n0\n", program.as_str())?;
+    assert!(rt; gives(alloc, words, files, 0, text, "")?);
     Ok(())
 }
 
@@ -200,7 +281,7 @@ fn words_are_seven_in_their_order(rt: HostRuntime) -> Result<(), Fail> {
         "",
         "voodoo --db s.sql --mode sql --text",
         "voodoo --mode sql --db s.sql --text q.sql",
-        "voodoo --db s.sql --mode algebra --text q.sql",
+        "voodoo --db s.sql --mode make --text q.sql",
         "voodoo --db s.sql --mode sql --text q.sql more",
     ] {
         let files = shelf_files(alloc, SCHEMA, "a\n1\n", QUERY)?;

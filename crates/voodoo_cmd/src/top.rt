@@ -1,22 +1,40 @@
 //! The top call.
 
-ghost use Rattle.std.specs.Prelude.{◌≡◌, ◌≤◌, ◌⊎◌, ◌↔◌, IfErr, IfSome, Err, None};
+ghost use Rattle.std.specs.Prelude.{◌≡◌, ◌≤◌, ◌⊎◌, ◌↔◌, IfErr, IfOk, IfSome, Err, None};
 ghost use Rattle.std.specs.Io.KnownBytes.{Appends, Keeps};
 ghost use Rattle.io_edge.specs.Faults.{Rose};
 ghost use Rattle.io_edge.specs.Sinks.{AppendsPrefix};
-ghost use Rattle.voodoo_cmd.specs.Expected.{expected, Answers, IsRefusal, ReadFaultHasCause, MayHaveWritten, Writes};
+ghost use Rattle.voodoo_cmd.specs.Expected.{expected};
+ghost use Rattle.voodoo_cmd.specs.Gives.{text_given};
+ghost use Rattle.voodoo_cmd.specs.Inputs.{IsFileRefusal};
+ghost use Rattle.voodoo_cmd.specs.Leaves.{Answers, IsRefusal, ReadFaultHasCause, SchemaFaultHasCause, MayHaveWritten, Writes};
+ghost use Rattle.voodoo_cmd.specs.Narrow.{IsNarrowStore};
 ghost use Rattle.voodoo_cmd.specs.Outcomes.{Meets};
 ghost use Rattle.voodoo_cmd.specs.Statuses.{status_line};
+ghost use Rattle.voodoo_cmd.specs.Steps.{database_in};
 ghost use Rattle.voodoo_cmd.specs.Words as words_spec;
 
 use crate::line::write_line;
-use crate::paths::table_file;
+use crate::program_step::{read_runnable, results_of};
+use crate::query_step::{read_column, sum_text};
+use crate::schema_step::read_catalog;
 use crate::status::{Status, UsageKind};
-use crate::steps::{read_names, read_numbers, read_query};
-use crate::sum::sum_text;
-use crate::words::request_of;
+use crate::tables_step::read_tables;
+use crate::words::{Mode, request_of};
 use io_edge::{Failed, Name, Shelf, Sink, write_all};
+use row_print::{PrintRefusal, write_results};
 use std::alloc::Global;
+use table_load::{Database, finish};
+use voodoo_ops::Results;
+
+/// What a run is to write.
+#[derive(Drop)]
+enum Answer {
+    /// A query's rows, as text.
+    Rows(Vec<u8>),
+    /// A program's results.
+    Results(Results),
+}
 
 /// Runs the command whose words are given, over the files of a shelf: the answer goes to `out`, and
 /// the line of the status to `err`. The first word is the program's name.
@@ -48,17 +66,17 @@ pub fn run<S: Shelf, O: Sink, E: Sink>(
     ensures whole_line { Rose (E.faults err.old) (E.faults err.new)
         ⊎ Appends (E.written err.old) (E.written err.new) (status_line result) }
 {
-    let status = match answer(alloc, words, shelf) {
-        Ok(text) => written(out, text.as_slice()),
+    let status = match read_answer(alloc, words, shelf) {
+        Ok(given) => written(alloc, out, &given),
         Err(status) => status,
     };
     let _ = write_line(err, &status);
     status
 }
 
-/// The text that is to be written, or the status of the first step that refuses.
-fn answer<S: Shelf>(alloc: Global, words: &[Name], shelf: &mut S) -> Result<Vec<u8>, Status>
-    ensures text { IfSome (S.holds shelf.old) (λ files. Meets (λ v. v.items) result (expected words.now files)) }
+/// What is to be written, or the status of the first step that refuses.
+fn read_answer<S: Shelf>(alloc: Global, words: &[Name], shelf: &mut S) -> Result<Answer, Status>
+    ensures text { IfSome (S.holds shelf.old) (λ files. Meets text_given result (expected words.now files)) }
     ensures usage { (result ≡ Err (Status.Usage UsageKind.Words)) ↔ (words_spec.request_of words.now ≡ None) }
     ensures refuses { IfErr result IsRefusal }
     ensures cause { IfErr result (ReadFaultHasCause words.now (S.holds shelf.old) (S.faults shelf.old) (S.faults shelf.new)) }
@@ -67,20 +85,49 @@ fn answer<S: Shelf>(alloc: Global, words: &[Name], shelf: &mut S) -> Result<Vec<
     let Some(request) = request_of(words) else {
         return Err(Status::Usage(UsageKind::Words));
     };
-    let names = read_names(alloc, shelf, request.schema)?;
-    let file = table_file(alloc, request.schema, names.0.text())?;
-    let numbers = read_numbers(alloc, shelf, file.text(), names.1.text())?;
-    read_query(alloc, shelf, request.text, &names)?;
-    Ok(sum_text(alloc, numbers.as_slice())?)
+    let db = read_database(alloc, shelf, request.schema)?;
+    match request.mode {
+        Mode::Sql => {
+            let column = read_column(alloc, shelf, request.text, &db)?;
+            Ok(Answer::Rows(sum_text(alloc, column)?))
+        }
+        Mode::Algebra => {
+            let runnable = read_runnable(alloc, shelf, request.text, &db)?;
+            Ok(Answer::Results(results_of(alloc, &runnable, db.store())?))
+        }
+    }
 }
 
-/// Writes the whole text.
-fn written<O: Sink>(out: &mut O, text: &[u8]) -> Status
-    ensures writes { Writes text.now result (O.written out.old) (O.written out.new) }
+/// The database of the schema's tables.
+fn read_database<S: Shelf>(alloc: Global, shelf: &mut S, schema: &str) -> Result<Database, Status>
+    ensures same_files { S.holds shelf.new ≡ S.holds shelf.old }
+    ensures later { S.faults shelf.old ≤ S.faults shelf.new }
+    ensures database { IfSome (S.holds shelf.old) (λ files. Meets (λ d. d) result (database_in files schema.now)) }
+    ensures narrow { IfOk result (λ d. IsNarrowStore d.store) }
+    ensures refuses { IfErr result IsFileRefusal }
+    ensures cause { IfErr result (SchemaFaultHasCause (S.holds shelf.old) schema.now (S.faults shelf.old) (S.faults shelf.new)) }
+{
+    let catalog = read_catalog(alloc, shelf, schema)?;
+    match read_tables(alloc, shelf, schema, catalog.defs()) {
+        Ok(tables) => Ok(finish(alloc, catalog.defs(), tables)?),
+        Err(status) => Err(status),
+    }
+}
+
+/// Writes the whole answer.
+fn written<O: Sink>(alloc: Global, out: &mut O, given: &Answer) -> Status
+    ensures writes { Writes (text_given given.now) result (O.written out.old) (O.written out.new) }
     ensures cause { result ≡ Status.WriteFault → Rose (O.faults out.old) (O.faults out.new) }
 {
-    match write_all(out, text) {
-        Ok(()) => Status::Done,
-        Err(Failed) => Status::WriteFault,
+    match given {
+        Answer::Rows(text) => match write_all(out, text.as_slice()) {
+            Ok(()) => Status::Done,
+            Err(Failed) => Status::WriteFault,
+        },
+        Answer::Results(results) => match write_results(alloc, results, out) {
+            Ok(()) => Status::Done,
+            Err(PrintRefusal::WriteFault) => Status::WriteFault,
+            Err(PrintRefusal::NoMemory) => Status::NoMemory,
+        },
     }
 }

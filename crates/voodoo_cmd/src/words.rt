@@ -5,30 +5,58 @@ ghost use Rattle.voodoo_cmd.specs.Words as spec;
 
 use io_edge::Name;
 
-/// What is asked: the names of the schema's file and of the query's.
+/// What the text is.
+#[derive(Clone, Copy, Debug, PartialEq, Eq)]
+pub(crate) enum Mode {
+    /// A query.
+    Sql,
+    /// A program of vector operators.
+    Algebra,
+}
+
+/// What is asked: in which mode, and the names of the schema's file and the text's.
 #[derive(Clone, Copy, Debug)]
 pub(crate) struct Request<'a> {
+    pub(crate) mode: Mode,
     pub(crate) schema: &'a str,
     pub(crate) text: &'a str,
+}
+
+/// The mode of a word.
+fn mode_of(word: &str) -> Option<Mode>
+    ensures { result ≡ spec.mode_of word.now }
+{
+    match word {
+        "sql" => Some(Mode::Sql),
+        "algebra" => Some(Mode::Algebra),
+        _ => None,
+    }
 }
 
 /// What the words ask. None where they are not the seven words of the command.
 pub(crate) fn request_of<'a>(words: &'a [Name]) -> Option<Request<'a>>
     ensures { MatchOption result
         (spec.request_of words.now ≡ None)
-        (λ r. spec.request_of words.now ≡ Some (record { schema = r.schema.now; text = r.text.now })) }
+        (λ r. spec.request_of words.now ≡ Some (record {
+          mode = r.mode;
+          schema = r.schema.now;
+          text = r.text.now;
+        })) }
 {
     let [_, db_option, schema, mode_option, mode, text_option, text] = words else {
         return None;
     };
-    let are_accepted = db_option.text() == "--db"
+    let are_options = db_option.text() == "--db"
         && mode_option.text() == "--mode"
-        && mode.text() == "sql"
         && text_option.text() == "--text";
-    if !are_accepted {
+    if !are_options {
         return None;
     }
+    let Some(mode) = mode_of(mode.text()) else {
+        return None;
+    };
     Some(Request {
+        mode,
         schema: schema.text(),
         text: text.text(),
     })

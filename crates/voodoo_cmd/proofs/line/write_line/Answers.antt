@@ -36,3 +36,6 @@ returns-in-NoMemory-clause-whole g c = rw c.in-NoMemory.is c.write_all-in-NoMemo
 
 pub returns-in-NoMemory-clause-prefix : goal.returns-in-NoMemory-clause-prefix
 returns-in-NoMemory-clause-prefix g c = rw c.in-NoMemory.is c.write_all-in-NoMemory.ensures.prefix
+
+pub returns-in-Overflow-clause-prefix : goal.returns-in-Overflow-clause-prefix
+returns-in-Overflow-clause-prefix g c = rw c.in-Overflow.is c.write_all-in-Overflow.ensures.prefix

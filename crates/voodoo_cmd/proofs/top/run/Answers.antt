@@ -3,13 +3,15 @@ use Rattle.std.specs.Prelude.{Option, Result, OnOk, OnErr}
 use Rattle.std.specs.Io.KnownBytes.{Appends}
 use Rattle.std.proofs.lemmas.List.{take_all}
 use Rattle.io_edge.specs.Sinks.{AppendsPrefix}
-use Rattle.std.specs.Global.{Vec}
 use Rattle.io_edge.specs.Shelves.{FileMap}
 use Rattle.voodoo_cmd.specs.Outcomes.{Outcome}
-use Rattle.voodoo_cmd.specs.Expected.{expected, Writes}
+use Rattle.voodoo_cmd.specs.declared.top.Answer.{Answer}
+use Rattle.voodoo_cmd.specs.Expected.{expected}
+use Rattle.voodoo_cmd.specs.Gives.{text_given}
+use Rattle.voodoo_cmd.specs.Leaves.{Writes}
 use Rattle.voodoo_cmd.proofs.Answered.{Answers-written, Answers-refused}
 use Rattle.voodoo_cmd.proofs.top.run.Goals as goal
-use Rattle.voodoo_cmd.proofs.top.run.Goals.{in-Ok, in-Err}
+use Rattle.voodoo_cmd.proofs.top.run.Goals.{in-Ok+in-Results-1, in-Ok+in-Rows-1, in-Err}
 
 -- what a write leaves is a prefix, whether it fails or not
 always_prefix : {E : Type 0} (old new : Option (List ℕ)) (text : List ℕ) (result : Result (Unit {0}) E)
@@ -25,10 +27,8 @@ pub returns-clause-answer : goal.returns-clause-answer
 returns-clause-answer g c =
     let holds = g.S.Shelf.holds c.args.shelf.now in
     let outcome : FileMap → Outcome (List ℕ) = λ files. expected c.args.words.now files in
-    let items : Vec ℕ → List ℕ = λ v. v.items in
-    elim c.match-answer.branch [
-      | in-Ok w ↦
-          let text : Writes w.in-Ok.text.items w.written-status.result (g.O.Sink.written c.args.out.now) (g.O.Sink.written w.written-status.new.out) = rw w.as_slice.ensures.value at w.written-status.ensures.writes in
-          rw (w.status-is, w.out-is) (Answers-written items w.in-Ok.text holds outcome w.written-status.result _ _ w.in-Ok.ensures.text text)
-      | in-Err w ↦ rw (w.status-is, w.out-is) (Answers-refused items holds outcome w.in-Err.status _ w.in-Err.ensures.text)
+    elim c.match-read_answer.branch [
+      | in-Ok+in-Results-1 w ↦ rw (w.status-is, w.out-is) (Answers-written text_given w.in-Ok.given holds outcome w.written-status.result _ _ w.in-Ok.ensures.text w.written-status.ensures.writes)
+      | in-Ok+in-Rows-1 w ↦ rw (w.status-is, w.out-is) (Answers-written text_given w.in-Ok.given holds outcome w.written-status.result _ _ w.in-Ok.ensures.text w.written-status.ensures.writes)
+      | in-Err w ↦ rw (w.status-is, w.out-is) (Answers-refused text_given holds outcome w.in-Err.status _ w.in-Err.ensures.text)
     ]
