@@ -58,11 +58,7 @@ const FIELDS_A_PIECE: u32 = 8192;
 /// Prints the results of a program in their order: for each a row of its name and length, a row of `slot` and
 /// its paths, then a row for each place, of the place's number from 0 and its slots, an empty slot
 /// as an empty field.
-pub fn write_results<O: Sink>(
-    alloc: Global,
-    r: &Results,
-    out: &mut O,
-) -> Result<(), PrintRefusal>
+pub fn write_results<O: Sink>(alloc: Global, r: &Results, out: &mut O) -> Result<(), PrintRefusal>
     ensures whole { OnOk result (Appends (O.written out.old) (O.written out.new) (results_text (seen_all r.now))) }
     ensures prefix { OnErr result (AppendsPrefix (O.written out.old) (O.written out.new) (results_text (seen_all r.now))) }
     ensures later { O.faults out.old ≤ O.faults out.new }
@@ -153,12 +149,7 @@ fn rows_a_piece(columns: &[Column]) -> u32
 }
 
 /// The rows of so many places from one on.
-fn piece_text(
-    alloc: Global,
-    columns: &[Column],
-    from: u32,
-    count: u32,
-) -> Result<Vec<u8>, NoMemory>
+fn piece_text(alloc: Global, columns: &[Column], from: u32, count: u32) -> Result<Vec<u8>, NoMemory>
     requires few { from + count ≤ 2 ^ 22 }
     requires within { All (λ c. from + count ≤ length c.slots) columns.now }
     ensures { IfOk result (λ text. text.items ≡ rows_text (place_rows (slots_in columns.now) from count)) }

@@ -30,7 +30,13 @@ fn rows_are_written_as_rfc_4180_has_them(rt: HostRuntime) -> Result<(), Fail> {
     assert!(rt; have_text(alloc, &[&["c1"], &["6"]], "c1\n6\n")?);
     // The only field of a row is quoted where it is empty: an empty line is no record.
     assert!(rt; have_text(alloc, &[&[""], &["", ""]], "\"\"\n,\n")?);
-    assert!(rt; have_text(alloc, &[&["a,b", "say \"so\""]], "\"a,b\",\"say \"\"so\"\"\"\n")?);
+    assert!(rt;
+        have_text(
+            alloc,
+            &[&["a,b", "say \"so\""]],
+            "\"a,b\",\"say \"\"so\"\"\"\n"
+        )?
+    );
     Ok(())
 }
 

@@ -53,8 +53,7 @@ pub(crate) fn read_column<'a, S: Shelf>(
 fn has_integer_column(defs: &[TableDef], table: &str, column: &str) -> bool
     ensures { result ≡ spec.has_integer_column defs.now (table.now, column.now) }
 {
-    defs.iter()
-        .any(|t| t.name.text() == table && has_integer_named(t.columns.as_slice(), column))
+    defs.iter().any(|t| t.name.text() == table && has_integer_named(t.columns.as_slice(), column))
 }
 
 /// Whether a column of whole numbers has that name.

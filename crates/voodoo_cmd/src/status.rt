@@ -51,7 +51,10 @@ pub enum Status {
     /// Writing failed. What was written is a prefix of the answer.
     WriteFault,
     /// The schema is refused at a byte of its text, counted from 0.
-    SchemaRefused { at: u32, kind: SchemaCause },
+    SchemaRefused {
+        at: u32,
+        kind: SchemaCause,
+    },
     /// A table is refused at a record and a column. Tables count from 1, in the schema's order; data
     /// records and columns from 1, where record 0 is the header and column 0 the record as a whole.
     DataRefused {
@@ -61,7 +64,10 @@ pub enum Status {
         kind: DataKind,
     },
     /// A limit is passed. The number is the limit plus one.
-    LimitReached { what: LimitWhat, number: u64 },
+    LimitReached {
+        what: LimitWhat,
+        number: u64,
+    },
     /// A number of the answer leaves 128 bits.
     Overflow,
     /// That file is longer, or of another form, than what is understood today.

@@ -80,11 +80,13 @@ fn loaded(alloc: Global, number: u32, def: &TableDef, bytes: &[u8]) -> Result<Ra
     match load(alloc, def, bytes) {
         Ok(table) => Ok(table),
         Err(DataRefusal::NoMemory) => Err(Status::NoMemory),
-        Err(DataRefusal::Bad {
-            at_record,
-            at_column,
-            kind,
-        }) => Err(Status::DataRefused {
+        Err(
+            DataRefusal::Bad {
+                at_record,
+                at_column,
+                kind,
+            },
+        ) => Err(Status::DataRefused {
             table: number,
             at_record,
             at_column,

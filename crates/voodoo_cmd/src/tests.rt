@@ -182,7 +182,8 @@ fn schemas_are_read_whole(rt: HostRuntime) -> Result<(), Fail> {
 #[test]
 fn a_table_has_columns_of_all_kinds(rt: HostRuntime) -> Result<(), Fail> {
     let alloc = rt.alloc();
-    let schema = "CREATE TABLE t (id INTEGER PRIMARY KEY, kind VARCHAR(9) NOT NULL, shipped DATE NOT NULL);";
+    let schema =
+        "CREATE TABLE t (id INTEGER PRIMARY KEY, kind VARCHAR(9) NOT NULL, shipped DATE NOT NULL);";
     for (table, code, text, line) in [
         (
             "id,kind,shipped\n5,\"a, b\",1970-01-01\n-7,c,9999-12-31\n",
@@ -216,7 +217,8 @@ fn a_table_has_columns_of_all_kinds(rt: HostRuntime) -> Result<(), Fail> {
 }
 
 /// The halves of a column, and their sum.
-const HALVES: &str = "t = Load(t)\nh = Divide(t.a, 2, .h)\nr = Range(t, .run, 0, 0, 0, 1)\nz = Zip(h, r)\ns = FoldSum(z, .h, .run, .s)\nPersist(out, s)\n";
+const HALVES: &str =
+    "t = Load(t)\nh = Divide(t.a, 2, .h)\nr = Range(t, .run, 0, 0, 0, 1)\nz = Zip(h, r)\ns = FoldSum(z, .h, .run, .s)\nPersist(out, s)\n";
 
 /// The greatest number of 128 bits, taken from each number, then added up in runs of two.
 const GREATEST: &str = "170141183460469231731687303715884105727";
@@ -240,9 +242,19 @@ fn a_program_is_run(rt: HostRuntime) -> Result<(), Fail> {
             "b,3\nslot,.z\n0,\n1,\n2,\na,3\nslot,.a\n0,1\n1,2\n2,3\n",
             "",
         ),
-        ("t = Load(u)\nPersist(a, t)\n", 13, "", "voodoo: not yet: text\n"),
+        (
+            "t = Load(u)\nPersist(a, t)\n",
+            13,
+            "",
+            "voodoo: not yet: text\n",
+        ),
         ("t = Load(t)\n", 13, "", "voodoo: not yet: text\n"),
-        ("t = Load( t)\nPersist(a, t)\n", 13, "", "voodoo: not yet: text\n"),
+        (
+            "t = Load( t)\nPersist(a, t)\n",
+            13,
+            "",
+            "voodoo: not yet: text\n",
+        ),
         (
             "r = Range(4194305, .r, 0, 1, 0, 1)\nPersist(a, r)\n",
             13,
@@ -263,7 +275,9 @@ fn a_total_that_leaves_128_bits_is_overflow(rt: HostRuntime) -> Result<(), Fail>
     let alloc = rt.alloc();
     let mut program = String::from_str(alloc, "t = Load(t)\nx = Divide(")?;
     program.push_str(GREATEST)?;
-    program.push_str(", t.a, .x)\nr = Range(t, .run, 0, 0, 0, 1)\nz = Zip(x, r)\ns = FoldSum(z, .x, .run, .s)\nPersist(out, s)\n")?;
+    program.push_str(
+        ", t.a, .x)\nr = Range(t, .run, 0, 0, 0, 1)\nz = Zip(x, r)\ns = FoldSum(z, .x, .run, .s)\nPersist(out, s)\n",
+    )?;
     let words = "voodoo --db s.sql --mode algebra --text q.sql";
     let over = "voodoo: overflow\n";
     let files = shelf_files(alloc, SCHEMA, "a\n1\n1\n", program.as_str())?;

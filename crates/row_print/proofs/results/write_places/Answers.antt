@@ -15,12 +15,14 @@ pub returns-in_err-write_all-clause-prefix : goal.returns-in_err-write_all-claus
 returns-in_err-write_all-clause-prefix g c =
     let within : c.pieces.from + c.min-count.result ≤ c.args.len = omega (arith, c.min-count.ensures, c.pieces-test.true) in
     on_err c.from_residual-in_err-write_all.result _
-      (prefix_next _ _ _ _ _ _ _ (places_next (slots_in c.args.columns.now) c.pieces.from c.min-count.result c.args.len within) c.pieces.invariant.2
-        (subst (AppendsPrefix _ _) (c.as_slice.ensures.value ∙ c.in_ok-piece.ensures) c.in_err-write_all.ensures.prefix))
+    (prefix_next _ _ _ _ _ _ _ (places_next (slots_in c.args.columns.now) c.pieces.from c.min-count.result c.args.len within) c.pieces.invariant.2
+    (subst (AppendsPrefix _ _) (c.as_slice.ensures.value ∙ c.in_ok-piece.ensures) c.in_err-write_all.ensures.prefix))
 
 pub pieces-preserved : goal.pieces-preserved
 pieces-preserved g c =
-    let within : c.pieces.from + c.min-count.result ≤ c.args.len = omega (arith, c.min-count.ensures, c.pieces-test.true) in
-    (within, omega (arith, c.pieces.invariant.1, c.write_all.ensures.cause.later),
+    let within : c.pieces.from + c.min-count.result ≤ c.args.len = omega (arith, c.min-count.ensures, c.pieces-test.true) in (
+      within,
+      omega (arith, c.pieces.invariant.1, c.write_all.ensures.cause.later),
       subst (Appends _ _) (ap (λ l. rows_text (place_rows (slots_in c.args.columns.now) 0 c.pieces.from) ++ l) (c.as_slice.ensures.value ∙ c.in_ok-piece.ensures) ∙ places_more (slots_in c.args.columns.now) c.pieces.from c.min-count.result)
-        (Appends-trans _ _ _ _ _ c.pieces.invariant.2 c.in_ok-write_all.ensures.whole))
+          (Appends-trans _ _ _ _ _ c.pieces.invariant.2 c.in_ok-write_all.ensures.whole),
+    )

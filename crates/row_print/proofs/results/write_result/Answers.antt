@@ -14,7 +14,7 @@ use Rattle.row_print.proofs.results.write_result.Goals as goal
 pub returns-in_err-write_all-clause-prefix : goal.returns-in_err-write_all-clause-prefix
 returns-in_err-write_all-clause-prefix g c =
     on_err c.from_residual-in_err-write_all.result _
-      (prefix_first _ _ _ _ _ (result_is c.args.name.now c.args.v.now _ _ c.len.ensures.len c.paths.ensures.paths) (subst (AppendsPrefix _ _) (c.as_slice.ensures.value ∙ c.in_ok-head.ensures) c.in_err-write_all.ensures.prefix))
+    (prefix_first _ _ _ _ _ (result_is c.args.name.now c.args.v.now _ _ c.len.ensures.len c.paths.ensures.paths) (subst (AppendsPrefix _ _) (c.as_slice.ensures.value ∙ c.in_ok-head.ensures) c.in_err-write_all.ensures.prefix))
 
 pub write_places-requires-clause-lengths : goal.write_places-requires-clause-lengths
 write_places-requires-clause-lengths g c =
@@ -26,8 +26,8 @@ returns-clause-whole g c =
     rw (c.columns.ensures.columns, c.len-2.ensures.len) refl in
     let whole = result_is c.args.name.now c.args.v.now _ _ c.len.ensures.len c.paths.ensures.paths ∙ ap (λ (l : List ℕ). rows_text (head_rows c.args.name.now c.len.result c.paths.result.now) ++ l) places in
     map_ok c.write_places.result _ _
-      (λ written. subst (Appends _ _) (ap (λ (l : List ℕ). l ++ rows_text (place_rows (slots_in c.columns.result.now) 0 c.len-2.result)) (c.as_slice.ensures.value ∙ c.in_ok-head.ensures) ∙ sym whole) (Appends-trans _ _ _ _ _ c.in_ok-write_all.ensures.whole written))
-      c.write_places.ensures.whole
+    (λ written. subst (Appends _ _) (ap (λ (l : List ℕ). l ++ rows_text (place_rows (slots_in c.columns.result.now) 0 c.len-2.result)) (c.as_slice.ensures.value ∙ c.in_ok-head.ensures) ∙ sym whole) (Appends-trans _ _ _ _ _ c.in_ok-write_all.ensures.whole written))
+    c.write_places.ensures.whole
 
 pub returns-clause-prefix : goal.returns-clause-prefix
 returns-clause-prefix g c =

@@ -27,12 +27,12 @@ read_table-requires g c = record { few = few_columns c.args.defs.now c.loop-i.i 
 pub returns-in-Err-clause-tables : goal.returns-in-Err-clause-tables
 returns-in-Err-clause-tables g c =
     stop_if_any (λ (v : Vec TableValue). v.items) (g.S.Shelf.holds c.args.shelf.now) c.args.schema.now c.args.defs.now c.loop-i.i c.index-defs-i.result c.loop-i.tables.items c.in-Err.status c.loop-i-test.true c.index-defs-i.is
-      c.loop-i.invariant.loaded (rw c.loop-i.invariant.same at c.in-Err.ensures.table)
+    c.loop-i.invariant.loaded (rw c.loop-i.invariant.same at c.in-Err.ensures.table)
 
 pub returns-in-Err-clause-cause : goal.returns-in-Err-clause-cause
 returns-in-Err-clause-cause g c =
     table_fault (g.S.Shelf.holds c.args.shelf.now) c.args.schema.now c.args.defs.now c.loop-i.i _ _ _ c.index-defs-i.result c.loop-i.tables.items c.in-Err.status c.loop-i-test.true c.index-defs-i.is c.loop-i.invariant.later
-      c.loop-i.invariant.loaded (rw c.loop-i.invariant.same at c.in-Err.ensures.cause)
+    c.loop-i.invariant.loaded (rw c.loop-i.invariant.same at c.in-Err.ensures.cause)
 
 pub loop-i-preserved : goal.loop-i-preserved
 loop-i-preserved g c = record {
@@ -40,5 +40,5 @@ loop-i-preserved g c = record {
   later = omega (arith, c.loop-i.invariant.later, c.read_table.ensures.later);
   degrees = ap (map (λ t. t.degree)) c.in_ok-keep-in-Ok.ensures ∙ degrees_more c.args.defs.now c.loop-i.i c.index-defs-i.result c.loop-i.tables.items c.in-Ok.table c.loop-i-test.true c.index-defs-i.is c.loop-i.invariant.degrees c.in-Ok.ensures.degree;
   loaded = rw c.in_ok-keep-in-Ok.ensures (more_if_any (g.S.Shelf.holds c.args.shelf.now) c.args.schema.now c.args.defs.now c.loop-i.i c.index-defs-i.result c.loop-i.tables.items c.in-Ok.table c.loop-i-test.true c.index-defs-i.is
-    c.loop-i.invariant.loaded (rw c.loop-i.invariant.same at c.in-Ok.ensures.table));
+      c.loop-i.invariant.loaded (rw c.loop-i.invariant.same at c.in-Ok.ensures.table));
 }

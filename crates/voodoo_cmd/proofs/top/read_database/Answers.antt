@@ -12,4 +12,4 @@ pub returns-clause-cause : goal.returns-clause-cause
 returns-clause-cause g c =
     let catalog : IfSome (g.S.Shelf.holds c.args.shelf.now) (λ files. catalog_in files c.args.schema.now ≡ Ok c.defs.result.now) = rw c.defs.ensures.value c.in_ok-catalog.ensures.catalog in
     schema_fault (g.S.Shelf.holds c.args.shelf.now) c.args.schema.now c.defs.result.now _ _ _ c.in-Err.status c.read_catalog.ensures.later (rw c.defs.ensures.value c.in_ok-catalog.ensures.clean) catalog
-      (rw c.read_catalog.ensures.same_files at c.in-Err.ensures.cause)
+    (rw c.read_catalog.ensures.same_files at c.in-Err.ensures.cause)
