@@ -1,7 +1,3 @@
-pub mod Digits
-pub mod Numbers
-pub mod Rows
-pub mod Tables
 pub mod Left
 pub mod DateFacts
 pub mod Rowwise

@@ -1,5 +1,3 @@
-pub mod ThinRows
-pub mod ThinTable
 pub mod Records
 pub mod Fields
 pub mod Values

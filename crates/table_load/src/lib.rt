@@ -16,18 +16,14 @@ mod reading;
 mod records;
 mod refusal;
 mod texts;
-mod thin;
 mod vectors;
 
 pub use database::{Database, finish};
 pub use loading::load;
 pub use raw::RawTable;
 pub use refusal::{DataKind, DataRefusal};
-pub use thin::thin_table;
 
 #[cfg(test)]
 mod finish_tests;
 #[cfg(test)]
 mod tests;
-#[cfg(test)]
-mod thin_tests;
