@@ -137,3 +137,20 @@ fn a_vector_and_its_store(rt: HostRuntime) -> Result<(), Fail> {
     assert!(rt; table.column(&Path::read(a, ".c")?).is_none());
     Ok(())
 }
+
+#[test]
+fn fronts_and_copies_keep_their_slots(rt: HostRuntime) -> Result<(), Fail> {
+    let a = rt.alloc();
+    let (path, column) = attribute(a, ".b", &[4, 5, 6])?;
+    if column.len() < 2 || path.is_root() {
+        return Err(Fail::from("too short"));
+    }
+    let v = StructVector::of_column(a, path, column.front(a, 2)?)?.copied(a)?;
+    assert_eq!(rt; v.len(), 2);
+    assert_eq!(rt; v.columns().len(), 1);
+    for c in v.columns() {
+        assert_eq!(rt; slot_of(c, 1), Some(Ok(Some(5))));
+        assert_eq!(rt; slot_of(c, 2), None);
+    }
+    Ok(())
+}

@@ -7,7 +7,7 @@ use io_edge::Name;
 use key_paths::Path;
 use std::alloc::{AllocError, Global};
 use std::test::Fail;
-use struct_vectors::{Column, ColumnMaker, Store, StructVector};
+use struct_vectors::{Column, Store, StructVector};
 
 fn name(alloc: Global, text: &str) -> Result<Name, AllocError> {
     Ok(Name::of(alloc, text)?)
@@ -23,25 +23,21 @@ fn path(alloc: Global, text: &str) -> Result<Path, AllocError> {
     }
 }
 
-/// The column of these slots.
-fn column(alloc: Global, slots: &[Slot]) -> Result<Column, AllocError> {
-    if slots.len() > 100 {
+/// The column of these numbers.
+fn column(alloc: Global, numbers: &[i128]) -> Result<Column, AllocError> {
+    if numbers.len() > 100 {
         return Err(AllocError);
     }
-    let mut maker = ColumnMaker::with_room(alloc, slots.len() as u32, true)?;
-    for i in 0..slots.len() {
-        maker.push(slots[i]);
-    }
-    Ok(maker.done())
+    Ok(Column::wide(Vec::from_slice(alloc, numbers)?))
 }
 
 /// The store of the table `t` with the column `.a`.
-fn store(alloc: Global, slots: &[Slot]) -> Result<Store, AllocError> {
+fn store(alloc: Global, numbers: &[i128]) -> Result<Store, AllocError> {
     let p = path(alloc, ".a")?;
     if p.is_root() {
         return Err(AllocError);
     }
-    let v = StructVector::of_column(alloc, p, column(alloc, slots)?)?;
+    let v = StructVector::of_column(alloc, p, column(alloc, numbers)?)?;
     let mut vectors = Vec::new(alloc);
     vectors.push((name(alloc, "t")?, v))?;
     Ok(Store::new(vectors))
@@ -116,12 +112,12 @@ fn run(
     alloc: Global,
     statements: Vec<Statement>,
     a: &str,
-    slots: &[Slot],
+    numbers: &[i128],
 ) -> Result<Result<Results, RunRefusal>, AllocError> {
     let mut to = statements;
     add(alloc, &mut to, "out", persist(alloc, a)?)?;
     let program = Program::new(to);
-    let store = store(alloc, slots)?;
+    let store = store(alloc, numbers)?;
     let Ok(shape) = program.check(alloc, &store) else {
         return Err(AllocError);
     };
@@ -150,8 +146,8 @@ fn overflows(run: &Result<Results, RunRefusal>) -> bool {
 #[test]
 fn quotients_are_truncated_and_add_up_at_slot_0(rt: HostRuntime) -> Result<(), Fail> {
     let alloc = rt.alloc();
-    let slots = [Some(5), Some(-9), None, Some(7)];
-    let results = done(run(alloc, totals(alloc, 2)?, "s", &slots)?)?;
+    let numbers = [5, -9, 1, 7];
+    let results = done(run(alloc, totals(alloc, 2)?, "s", &numbers)?)?;
     assert_eq!(rt; results.named().len(), 1);
     let (name, v) = &results.named()[0];
     assert_eq!(rt; name.text(), "out");
@@ -164,11 +160,11 @@ fn quotients_are_truncated_and_add_up_at_slot_0(rt: HostRuntime) -> Result<(), F
 #[test]
 fn zero_divisors_give_empties_and_no_zero(rt: HostRuntime) -> Result<(), Fail> {
     let alloc = rt.alloc();
-    let slots = [Some(5), Some(-9)];
-    assert_eq!(rt; first(run(alloc, totals(alloc, 0)?, "s", &slots)?)?, None);
-    assert_eq!(rt; first(run(alloc, totals(alloc, 0)?, "h", &slots)?)?, None);
+    let numbers = [5, -9];
+    assert_eq!(rt; first(run(alloc, totals(alloc, 0)?, "s", &numbers)?)?, None);
+    assert_eq!(rt; first(run(alloc, totals(alloc, 0)?, "h", &numbers)?)?, None);
     assert_eq!(rt;
-        first(run(alloc, totals(alloc, 3)?, "h", &slots)?)?,
+        first(run(alloc, totals(alloc, 3)?, "h", &numbers)?)?,
         Some(1)
     );
     Ok(())
@@ -177,19 +173,19 @@ fn zero_divisors_give_empties_and_no_zero(rt: HostRuntime) -> Result<(), Fail> {
 #[test]
 fn totals_and_quotients_overflow_where_somebody_reaches_them(rt: HostRuntime) -> Result<(), Fail> {
     let alloc = rt.alloc();
-    let high = [Some(i128::MAX), Some(1)];
+    let high = [i128::MAX, 1];
     assert!(rt; overflows(&run(alloc, totals(alloc, 1)?, "s", &high)?));
     assert_eq!(rt;
         first(run(alloc, totals(alloc, 1)?, "z", &high)?)?,
         Some(i128::MAX)
     );
-    let low = [Some(i128::MIN)];
+    let low = [i128::MIN];
     assert!(rt; overflows(&run(alloc, totals(alloc, -1)?, "h", &low)?));
     assert_eq!(rt;
         first(run(alloc, totals(alloc, -1)?, "t", &low)?)?,
         Some(i128::MIN)
     );
-    let turned = [Some(i128::MAX), Some(1), Some(-1)];
+    let turned = [i128::MAX, 1, -1];
     assert_eq!(rt;
         first(run(alloc, totals(alloc, 1)?, "s", &turned)?)?,
         Some(i128::MAX)
@@ -202,7 +198,7 @@ fn fault(
     alloc: Global,
     statements: Vec<Statement>,
 ) -> Result<Option<(u32, ProgramKind)>, AllocError> {
-    match Program::new(statements).check(alloc, &store(alloc, &[Some(1)])?) {
+    match Program::new(statements).check(alloc, &store(alloc, &[1])?) {
         Ok(_) => Ok(None),
         Err(ProgramRefusal::Bad { statement, kind }) => Ok(Some((statement, kind))),
         Err(ProgramRefusal::NoMemory) => Err(AllocError),
@@ -284,7 +280,7 @@ fn long_ranges_pass_the_check_and_are_a_limit(rt: HostRuntime) -> Result<(), Fai
         zeros(alloc, Size::Number(4_194_305), ".run")?,
     )?;
     add(alloc, &mut to, "out", persist(alloc, "r")?)?;
-    let shape = Program::new(to).check(alloc, &store(alloc, &[Some(1)])?);
+    let shape = Program::new(to).check(alloc, &store(alloc, &[1])?);
     assert!(rt; shape.is_ok_and(|s| s.limit() == Some((1, 4_194_305))));
     Ok(())
 }
