@@ -1,5 +1,5 @@
 -- Dictionaries: the distinct texts of a list, ascending by bytes. The code of a text is the number of texts below it.
--- As the Voodoo paper (PVLDB 9(14), 2016, section 4) keeps a column of texts as positions in an ordered dictionary.
+-- Texts are in the order of their bytes, so codes compare as their texts do.
 use Rattle.std.specs.Prelude.{◌≡◌, ℕ, Bool, true, List}
 use Rattle.std.specs.List.{AllPairs, count_by, list_any}
 use Rattle.std.specs.Str.{bytes_eq}

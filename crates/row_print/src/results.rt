@@ -71,7 +71,7 @@ pub fn write_results<O: Sink>(alloc: Global, r: &Results, out: &mut O) -> Result
 }
 
 /// Prints one vector under its name.
-fn write_result<O: Sink>(
+pub(crate) fn write_result<O: Sink>(
     alloc: Global,
     name: &Name,
     v: &StructVector,
@@ -115,7 +115,7 @@ fn push_paths(paths: &[Path], row: &mut ByteRecord) -> Result<(), NoMemory>
 }
 
 /// Prints the rows of all places, some at a time.
-pub(crate) fn write_places<O: Sink>(
+fn write_places<O: Sink>(
     alloc: Global,
     columns: &[Column],
     len: u32,

@@ -1,13 +1,14 @@
-//! Rows as text, and the rows of places.
+//! Rows as text, and vectors as rows.
 
-use crate::results::write_places;
+use crate::results::write_result;
 use crate::row_text::RowText;
 use control_vectors::ControlVector;
 use csv::ByteRecord;
-use io_edge::SteadySink;
+use io_edge::{Name, SteadySink};
+use key_paths::Path;
 use std::alloc::{AllocError, Global};
 use std::test::Fail;
-use struct_vectors::Column;
+use struct_vectors::{Column, StructVector};
 
 /// Whether rows of these fields, one after the other, have this text.
 fn have_text(alloc: Global, rows: &[&[&str]], expected: &str) -> Result<bool, AllocError> {
@@ -40,39 +41,41 @@ fn rows_are_written_as_rfc_4180_has_them(rt: HostRuntime) -> Result<(), Fail> {
     Ok(())
 }
 
-/// A column of 0, 1 and so on, and one of an empty slot and -5.
-fn two_columns(alloc: Global) -> Result<Vec<Column>, AllocError> {
-    let mut columns = Vec::new(alloc);
-    let numbers = Vec::from_slice(alloc, &[0, -5])?;
-    let marks = Vec::from_slice(alloc, &[false, true])?;
-    if let Some(counting) = ControlVector::new(0, 1, 0, 1) {
-        columns.push(Column::control(counting, 2))?;
+/// What is printed of a vector with one column, at `.a`, under the name `v`. None where it can't be.
+fn printed(alloc: Global, column: Column) -> Result<Option<SteadySink>, Fail> {
+    let Ok(path) = Path::read(alloc, ".a") else {
+        return Ok(None);
+    };
+    if path.is_root() {
+        return Ok(None);
     }
-    columns.push(Column::narrow_with_empties(numbers, marks))?;
-    Ok(columns)
+    let v = StructVector::of_column(alloc, path, column)?;
+    let name = Name::of(alloc, "v")?;
+    let mut out = SteadySink::with_room(alloc, 70_000)?;
+    match write_result(alloc, &name, &v, &mut out) {
+        Ok(()) => Ok(Some(out)),
+        Err(_) => Ok(None),
+    }
 }
 
 #[test]
-fn a_place_has_its_number_and_its_slots(rt: HostRuntime) -> Result<(), Fail> {
+fn a_vector_is_its_name_its_paths_and_its_places(rt: HostRuntime) -> Result<(), Fail> {
     let alloc = rt.alloc();
-    let columns = two_columns(alloc)?;
-    let mut out = SteadySink::with_room(alloc, 100)?;
-    assert!(rt; write_places(alloc, columns.as_slice(), 2, &mut out).is_ok());
-    assert_eq!(rt; out.bytes(), b"0,0,\n1,1,-5\n".as_slice());
+    let numbers = Vec::from_slice(alloc, &[0, -5])?;
+    let marks = Vec::from_slice(alloc, &[false, true])?;
+    let column = Column::narrow_with_empties(numbers, marks);
+    let out = printed(alloc, column)?.expect(&rt, "printed");
+    assert_eq!(rt; out.bytes(), b"v,2\nslot,.a\n0,\n1,-5\n".as_slice());
     Ok(())
 }
 
 #[test]
 fn many_places_are_written_piece_by_piece(rt: HostRuntime) -> Result<(), Fail> {
     let alloc = rt.alloc();
-    let mut columns = Vec::new(alloc);
-    if let Some(zeros) = ControlVector::new(0, 0, 0, 1) {
-        columns.push(Column::control(zeros, 10_000))?;
-    }
-    // Four digits at most and a `,0` after them: 10 lines of 4 bytes, 90 of 5, 900 of 6, 9,000 of 7.
-    let mut out = SteadySink::with_room(alloc, 68_890)?;
-    assert!(rt; write_places(alloc, columns.as_slice(), 10_000, &mut out).is_ok());
-    assert_eq!(rt; out.bytes().len(), 68_890);
+    let zeros = ControlVector::new(0, 0, 0, 1).expect(&rt, "admissible");
+    let out = printed(alloc, Column::control(zeros, 10_000))?.expect(&rt, "printed");
+    // `v,10000` and `slot,.a`, then `,0` behind 10 numbers of one digit, 90 of two, 900 of three, 9,000 of four.
+    assert_eq!(rt; out.bytes().len(), 8 + 8 + 40 + 450 + 5_400 + 63_000);
     assert!(rt; out.bytes().ends_with(b"\n9998,0\n9999,0\n"));
     Ok(())
 }

@@ -2,7 +2,6 @@
 use Rattle.std.proofs.Common.{◌≡◌, ℕ, zero, suc, ◌<◌, ◌≤◌, List, [], ◌∷◌, ◌++◌, length, take, drop, map, get_or, refl, arith}
 use Rattle.std.specs.List.{flat_map}
 use Rattle.sql_read.specs.declared.definition.TableDef.{TableDef}
-use Rattle.sql_types.specs.declared.finding.Finding.{Finding}
 use Rattle.sql_types.specs.Catalog.{findings, table_findings, too_many_tables, tables_twice, too_many_columns, columns_twice, two_keys, keys_unknown, bad_widths, no_not_nulls}
 
 front : {X : Type 0} (xs ys : List X) → xs ++ ys ≡ [] → xs ≡ []

@@ -15,7 +15,7 @@ use Rattle.sql_read.specs.declared.definition.TableDef.{TableDef}
 use Rattle.struct_vectors.specs.Columns.{ColumnValue, narrow, some_slots}
 use Rattle.struct_vectors.specs.Vectors.{VectorValue}
 use Rattle.table_load.specs.Values.{Value, Table}
-use Rattle.table_load.specs.Databases.{attributes_from, column_of, path_of, store_of, database_of, tables_texts}
+use Rattle.table_load.specs.Databases.{attributes_from, store_of, database_of, tables_texts}
 use Rattle.voodoo_cmd.specs.Narrow.{AreNarrow, IsNarrowStore, IsNarrowIfAny, slots_seen}
 
 abbrev Attribute : Type 0

@@ -1,8 +1,8 @@
 -- Why the reading of the schema and its tables may end with a read fault, from why that of the tables may.
-use Rattle.std.proofs.Common.{◌≡◌, ℕ, ◌+◌, ◌-◌, ◌≤◌, List, [], length, take, inl, inr, arith}
-use Rattle.std.specs.Prelude.{Option, Some, None, Ok, IfSome, IsOkAnd, ◌⊎◌, slice_get}
+use Rattle.std.proofs.Common.{◌≡◌, ℕ, ◌+◌, ◌-◌, ◌≤◌, List, [], length, inl, inr, arith}
+use Rattle.std.specs.Prelude.{Option, Some, None, Ok, IfSome, IsOkAnd, ◌⊎◌}
 use Rattle.io_edge.specs.Faults.{Rose}
-use Rattle.io_edge.specs.Shelves.{FileMap, Lacks}
+use Rattle.io_edge.specs.Shelves.{FileMap}
 use Rattle.sql_read.specs.declared.definition.TableDef.{TableDef}
 use Rattle.sql_types.specs.Catalog.{findings}
 use Rattle.voodoo_cmd.specs.declared.status.FileRole.{FileRole}
@@ -10,10 +10,9 @@ use Rattle.voodoo_cmd.specs.declared.status.FileRole.TheVariants.{Schema, Table,
 use Rattle.voodoo_cmd.specs.declared.status.Status.{Status}
 use Rattle.voodoo_cmd.specs.declared.status.Status.TheVariants.{Done, Usage, ReadFault, WriteFault, SchemaRefused, DataRefused, LimitReached, Overflow, NotYet, NoMemory}
 use Rattle.voodoo_cmd.specs.Expected.{schema_file_read}
-use Rattle.voodoo_cmd.specs.Leaves.{IsSchemaRole, HasSchemaCause, SchemaFaultHasCause}
-use Rattle.voodoo_cmd.specs.Outcomes.{Meets}
+use Rattle.voodoo_cmd.specs.Leaves.{IsSchemaRole, SchemaFaultHasCause}
 use Rattle.voodoo_cmd.specs.Reads.{IsNumbered, TableFault, HasTableFault, HasTablesCause}
-use Rattle.voodoo_cmd.specs.Steps.{catalog_in, tables_from}
+use Rattle.voodoo_cmd.specs.Steps.{catalog_in}
 use Rattle.voodoo_cmd.proofs.Limits.{few_tables}
 use Rattle.voodoo_cmd.proofs.TablesLaws.{rose_earlier}
 

@@ -1,5 +1,5 @@
 -- What a run is expected to answer, from the words and the files alone: the first refusal in the order of the steps, or the text.
-use Rattle.std.specs.Prelude.{ℕ, ◌-◌, List, [], ◌∷◌, codes, take, slice_get, Option, Some, None, Ok, Err}
+use Rattle.std.specs.Prelude.{ℕ, ◌-◌, List, [], ◌∷◌, codes, take, slice_get, Ok, Err}
 use Rattle.std.specs.Option.{option_map}
 use Rattle.control_vectors.specs.Slots.{Slot, numbers}
 use Rattle.io_edge.specs.Shelves.{FileMap}
@@ -17,7 +17,6 @@ use Rattle.voodoo_cmd.specs.declared.status.Status.TheVariants.{ReadFault}
 use Rattle.voodoo_cmd.specs.Outcomes.{Outcome, or_refuse, ◌>>=◌}
 use Rattle.voodoo_cmd.specs.Paths.{table_file}
 use Rattle.voodoo_cmd.specs.Steps.{request_in, catalog_in, tables_from, database_in, query_in, program_in, results_outcome}
-use Rattle.voodoo_cmd.specs.Words.{Request}
 
 -- ---- the answer
 

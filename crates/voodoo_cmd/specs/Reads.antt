@@ -1,11 +1,11 @@
 -- Why the reading of the tables may end with a read fault.
-use Rattle.std.specs.Prelude.{ℕ, ◌≡◌, ◌+◌, ◌<◌, ◌≤◌, ◌⊎◌, List, length, take, slice_get, Option, Some, None, Ok}
+use Rattle.std.specs.Prelude.{ℕ, ◌≡◌, ◌+◌, ◌≤◌, ◌⊎◌, List, length, take, slice_get, Option, Some, None, Ok}
 use Rattle.io_edge.specs.Faults.{Rose}
 use Rattle.io_edge.specs.Shelves.{FileMap}
 use Rattle.sql_read.specs.declared.definition.TableDef.{TableDef}
 use Rattle.table_load.specs.Values.{Table as TableValue}
 use Rattle.voodoo_cmd.specs.declared.status.FileRole.{FileRole}
-use Rattle.voodoo_cmd.specs.declared.status.FileRole.TheVariants.{Schema, Table, Text}
+use Rattle.voodoo_cmd.specs.declared.status.FileRole.TheVariants.{Table}
 use Rattle.voodoo_cmd.specs.declared.status.Status.{Status}
 use Rattle.voodoo_cmd.specs.declared.status.Status.TheVariants.{ReadFault, WriteFault, Done, Usage, Overflow}
 use Rattle.voodoo_cmd.specs.Paths.{table_file}

@@ -1,7 +1,6 @@
 -- The steps of a run, each a function of the files.
 use Rattle.std.specs.Prelude.{ℕ, ◌+◌, ◌&&◌, Bool, true, false, if◌then◌else◌, List, [], ◌∷◌, Option, Some, None, is_none, Result, Ok, Err}
 use Rattle.std.specs.List.{list_any}
-use Rattle.std.specs.Str.{bytes_eq}
 use Rattle.control_vectors.specs.Slots.{Slot}
 use Rattle.control_vectors.specs.declared.Over.{Over}
 use Rattle.io_edge.specs.Shelves.{FileMap}
@@ -23,7 +22,6 @@ use Rattle.table_load.specs.Tables.{table_of}
 use Rattle.table_load.specs.Databases.{DatabaseValue, database_of}
 use Rattle.voodoo_ops.specs.declared.op.Statement.{Statement}
 use Rattle.voodoo_ops.specs.Check.{Outline, Fault, check, outlines, limit_of}
-use Rattle.voodoo_ops.specs.Meaning.{meaning}
 use Rattle.voodoo_ops.specs.Vectors.{Env, Named, known, slots_of, tables}
 use Rattle.voodoo_text.specs.Reading.{program_of}
 use Rattle.voodoo_cmd.specs.declared.status.UsageKind.TheVariants as usage

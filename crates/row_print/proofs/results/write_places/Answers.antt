@@ -1,4 +1,4 @@
-use Rattle.std.proofs.Common.{arith, sym, subst, ap, ◌∙◌, ◌+◌, ◌≤◌, ◌≡◌, ◌++◌}
+use Rattle.std.proofs.Common.{arith, subst, ap, ◌∙◌, ◌+◌, ◌≤◌, ◌++◌}
 use Rattle.std.specs.Io.KnownBytes.{Appends}
 use Rattle.io_edge.specs.Sinks.{AppendsPrefix}
 use Rattle.row_print.specs.Results.{rows_text, place_rows, slots_in}

@@ -1,14 +1,13 @@
-use Rattle.std.proofs.Common.{◌≡◌, ◌++◌, ℕ, List, [], refl, length, map, sym, subst, ap, ◌∙◌}
+use Rattle.std.proofs.Common.{◌≡◌, ◌++◌, ℕ, List, [], refl, length, sym, subst, ap, ◌∙◌}
 use Rattle.std.specs.Io.KnownBytes.{Appends}
 use Rattle.std.proofs.KnownBytes.{Appends-trans}
 use Rattle.std.proofs.lemmas.List.{append-nil}
 use Rattle.std.proofs.lemmas.List.Elements.{All-map}
 use Rattle.io_edge.specs.Sinks.{AppendsPrefix}
-use Rattle.voodoo_ops.specs.Vectors.{seen}
 use Rattle.struct_vectors.specs.Vectors.{columns_of}
 use Rattle.row_print.specs.Results.{rows_text, head_rows, place_rows, slots_in}
 use Rattle.row_print.proofs.Growing.{on_err, map_err, map_ok, prefix_first, prefix_next}
-use Rattle.row_print.proofs.Rows.{result_is, seen_slots}
+use Rattle.row_print.proofs.Rows.{result_is}
 use Rattle.row_print.proofs.results.write_result.Goals as goal
 
 pub returns-in_err-write_all-clause-prefix : goal.returns-in_err-write_all-clause-prefix

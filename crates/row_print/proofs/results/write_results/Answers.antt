@@ -1,4 +1,4 @@
-use Rattle.std.proofs.Common.{◌<◌, ◌∙◌, ap, arith, length, subst}
+use Rattle.std.proofs.Common.{◌<◌, ap, arith, length, subst}
 use Rattle.std.specs.Io.KnownBytes.{Appends}
 use Rattle.std.proofs.KnownBytes.{Appends-trans}
 use Rattle.voodoo_ops.specs.Vectors.{seen, seen_all}

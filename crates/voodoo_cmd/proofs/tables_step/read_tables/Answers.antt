@@ -1,8 +1,6 @@
-use Rattle.std.proofs.Common.{◌≡◌, ◌∙◌, List, length, map, ap, sym, subst, arith, refl}
-use Rattle.std.specs.Prelude.{IfSome, Ok}
+use Rattle.std.proofs.Common.{◌∙◌, map, ap, arith, refl}
 use Rattle.std.specs.Global.{Vec}
 use Rattle.table_load.specs.Values.{Table as TableValue}
-use Rattle.voodoo_cmd.specs.Steps.{tables_from}
 use Rattle.voodoo_cmd.proofs.Limits.{few_tables, few_columns}
 use Rattle.voodoo_cmd.proofs.TablesLaws.{more_if_any, stop_if_any, none_if_any, degrees_more, table_fault}
 use Rattle.voodoo_cmd.proofs.tables_step.read_tables.Goals as goal

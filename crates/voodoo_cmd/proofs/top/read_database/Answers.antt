@@ -1,4 +1,4 @@
-use Rattle.std.proofs.Common.{◌≡◌, ◌∙◌, sym}
+use Rattle.std.proofs.Common.{◌≡◌}
 use Rattle.std.specs.Prelude.{IfSome, Ok}
 use Rattle.voodoo_cmd.specs.Steps.{catalog_in}
 use Rattle.voodoo_cmd.proofs.NarrowStores.{narrow-database}
