@@ -216,6 +216,68 @@ fn a_table_has_columns_of_all_kinds(rt: HostRuntime) -> Result<(), Fail> {
     Ok(())
 }
 
+/// A table of two columns, whose key is the first: its bytes, the exit status, and what is written to
+/// standard output and to standard error.
+const DAMAGED: [(&str, u8, &str, &str); 11] = [
+    ("id", 6, "", "voodoo: table 1: record 0: column 0: Header\n"),
+    (
+        "id,w\n",
+        6,
+        "",
+        "voodoo: table 1: record 0: column 2: Header\n",
+    ),
+    (
+        "id,v\n1,10\n7",
+        6,
+        "",
+        "voodoo: table 1: record 2: column 0: FieldCount\n",
+    ),
+    (
+        "id,v\n1,10\n7,",
+        6,
+        "",
+        "voodoo: table 1: record 2: column 2: NotInteger\n",
+    ),
+    ("id,v\n1,10\n7,2", 0, "c1\n12\n", ""),
+    ("ID,V\n1,10\n", 0, "c1\n10\n", ""),
+    (
+        "id,v\n1,10\n1,x\n",
+        6,
+        "",
+        "voodoo: table 1: record 2: column 1: KeyTwice 1\n",
+    ),
+    ("\"id\",v\n\"1\",10\n", 0, "c1\n10\n", ""),
+    (
+        "id,v\n1,10\n7,20\n3,30\n4,40\n7,50\n",
+        6,
+        "",
+        "voodoo: table 1: record 5: column 1: KeyTwice 2\n",
+    ),
+    (
+        "id,v\n1,10\n7\n",
+        6,
+        "",
+        "voodoo: table 1: record 2: column 0: FieldCount\n",
+    ),
+    (
+        "id,v\n1,+5\n",
+        6,
+        "",
+        "voodoo: table 1: record 1: column 2: NotInteger\n",
+    ),
+];
+
+#[test]
+fn damaged_tables_are_refused_where_they_are_damaged(rt: HostRuntime) -> Result<(), Fail> {
+    let alloc = rt.alloc();
+    let schema = "CREATE TABLE t (id INTEGER PRIMARY KEY, v INTEGER NOT NULL);";
+    for (table, code, text, line) in DAMAGED {
+        let files = shelf_files(alloc, schema, table, "SELECT SUM(v) FROM t\n")?;
+        assert!(rt; gives(alloc, WORDS, files, code, text, line)?, "{table}");
+    }
+    Ok(())
+}
+
 /// The halves of a column, and their sum.
 const HALVES: &str =
     "t = Load(t)\nh = Divide(t.a, 2, .h)\nr = Range(t, .run, 0, 0, 0, 1)\nz = Zip(h, r)\ns = FoldSum(z, .h, .run, .s)\nPersist(out, s)\n";
