@@ -5,8 +5,8 @@
 
 It makes tables of whole numbers, and tables of four columns, in a folder of its own, asks each tool for the sum of a
 column from cold start to the printed answer, and checks that the answers agree. The rounds are interleaved: each round
-runs every tool once. A time is the median of the rounds, and a peak is the greatest resident memory of any round. Tools
-that are not installed are left out.
+runs every tool once. A time is the median of the rounds, and a peak is the greatest resident memory of any round; one of some 16 MB says
+only that there was no more. Tools that are not installed are left out.
 """
 
 import argparse
@@ -29,17 +29,20 @@ SCHEMAS = {
     "shipped DATE NOT NULL, amount INTEGER NOT NULL);\n",
 }
 COLUMNS = {"t": "a", "made": "amount"}
+SQLITE_COLUMNS = {
+    "t": "a INTEGER NOT NULL",
+    "made": "id INTEGER PRIMARY KEY, kind TEXT, shipped TEXT, amount INTEGER",
+}
 KINDS = ("AIR", "RAIL", "SHIP", "TRUCK")
 
 
 def whole_numbers(rows):
     """A column of whole numbers of nine digits, as a generator of a linear congruence gives them."""
     x = 12345
-    lines = ["a"]
+    yield "a\n"
     for _ in range(rows):
         x = (x * 1103515245 + 12345) % 2**31
-        lines.append(str(100_000_000 + x % 900_000_000))
-    return "\n".join(lines) + "\n"
+        yield f"{100_000_000 + x % 900_000_000}\n"
 
 
 def four_columns(rows, seed=1):
@@ -50,51 +53,50 @@ def four_columns(rows, seed=1):
 
     first = datetime.date(1992, 1, 1)
     days = [(first + datetime.timedelta(d)).isoformat() for d in range(2557)]
-    lines = ["id,kind,shipped,amount"]
+    yield "id,kind,shipped,amount\n"
     for i in range(1, rows + 1):
-        lines.append(f"{i},{KINDS[u(i, 1) % 4]},{days[u(i, 2) % 2557]},{u(i, 3) - 500000}")
-    return "\n".join(lines) + "\n"
+        yield f"{i},{KINDS[u(i, 1) % 4]},{days[u(i, 2) % 2557]},{u(i, 3) - 500000}\n"
 
 
 def make(folder, table, rows):
-    """Writes the schema, the table and the query; gives the folder and the number of the table's bytes."""
+    """Writes the schema, the table, line by line, and the query; gives the folder and the number of the table's bytes."""
     place = os.path.join(folder, f"{table}-{rows}")
     os.mkdir(place)
-    text = whole_numbers(rows) if table == "t" else four_columns(rows)
     files = {
-        "schema.sql": SCHEMAS[table],
-        f"{table}.csv": text,
-        "query.sql": f"SELECT SUM({COLUMNS[table]}) FROM {table}\n",
+        "schema.sql": [SCHEMAS[table]],
+        f"{table}.csv": whole_numbers(rows) if table == "t" else four_columns(rows),
+        "query.sql": [f"SELECT SUM({COLUMNS[table]}) FROM {table}\n"],
+        "sqlite.txt": [
+            f"CREATE TABLE {table} ({SQLITE_COLUMNS[table]});\n.mode csv\n.import --skip 1 {place}/{table}.csv {table}\n",
+            f"SELECT SUM({COLUMNS[table]}) FROM {table};\n",
+        ],
     }
-    for name, content in files.items():
+    for name, lines in files.items():
         with open(os.path.join(place, name), "w", encoding="utf-8") as file:
-            file.write(content)
-    return place, len(text)
+            file.writelines(lines)
+    return place, os.path.getsize(os.path.join(place, f"{table}.csv"))
+
+
+# Each tool: the words of its command, and the file that it reads as its standard input.
 
 
 def voodoo(place, table):
     schema, query = os.path.join(place, "schema.sql"), os.path.join(place, "query.sql")
-    return [PROGRAM, "--db", schema, "--mode", "sql", "--text", query], None
+    return [PROGRAM, "--db", schema, "--mode", "sql", "--text", query], os.devnull
 
 
 def sqlite(place, table):
-    columns = {"t": "a INTEGER NOT NULL", "made": "id INTEGER PRIMARY KEY, kind TEXT, shipped TEXT, amount INTEGER"}
-    script = (
-        f"CREATE TABLE {table} ({columns[table]});\n.mode csv\n.import --skip 1 {place}/{table}.csv {table}\n"
-        f"SELECT SUM({COLUMNS[table]}) FROM {table};\n"
-    )
-    return ["sqlite3", ":memory:"], script
+    return ["sqlite3", ":memory:"], os.path.join(place, "sqlite.txt")
 
 
 def pandas(place, table):
     code = f"import pandas; print(pandas.read_csv({place + '/' + table + '.csv'!r})[{COLUMNS[table]!r}].sum())"
-    return [sys.executable, "-c", code], None
+    return [sys.executable, "-c", code], os.devnull
 
 
 def datamash(place, table):
     column = {"t": "1", "made": "4"}[table]
-    with open(f"{place}/{table}.csv", encoding="utf-8") as file:
-        return ["datamash", "-t,", "--header-in", "--format", "%.0f", "sum", column], file.read()
+    return ["datamash", "-t,", "--header-in", "--format", "%.0f", "sum", column], f"{place}/{table}.csv"
 
 
 def installed():
@@ -112,13 +114,14 @@ def installed():
     return tools
 
 
-def run(words, script):
-    """The last line that a command prints, its seconds, and its peak of resident memory in bytes."""
-    with tempfile.TemporaryFile("w+") as given, tempfile.TemporaryFile("w+") as out:
-        given.write(script or "")
-        given.seek(0)
+def run(words, given):
+    """The last line that a command prints, its seconds, and its peak of resident memory in bytes.
+
+    The system counts a child's peak from before its program begins, so it is never below this script's own size.
+    """
+    with open(given, "rb") as lines, tempfile.TemporaryFile("w+") as out:
         start = time.perf_counter()
-        child = subprocess.Popen(words, stdin=given, stdout=out)
+        child = subprocess.Popen(words, stdin=lines, stdout=out)
         _, status, usage = os.wait4(child.pid, 0)
         seconds = time.perf_counter() - start
         child.returncode = os.waitstatus_to_exitcode(status)
@@ -156,7 +159,7 @@ def main():
         sys.exit("bench: the program is not built")
     tools = installed()
     print(f"{platform.machine()}, {os.cpu_count()} processors; " + ", ".join(f"{n} {v}" for n, (_, v) in tools.items()))
-    print("| table | rows | bytes | tool | seconds | peak MB | peak / file | voodoo is faster by |")
+    print("| table | rows | bytes | tool | seconds | peak MB | peak / file | time / voodoo's |")
     print("|---|---|---|---|---|---|---|---|")
     folder = tempfile.mkdtemp(prefix="voodoo-bench-")
     try:
