@@ -3,7 +3,7 @@ use Rattle.std.proofs.Common.{◌≡◌, ℕ, zero, suc, ◌≤◌, ◌<◌, Boo
 use Rattle.phrases.specs.declared.refusal.ReadError.TheVariants.{NoMemory, Refused}
 use Rattle.phrases.specs.Phrases.{Phrase}
 use Rattle.phrases.specs.Parsers.{Outcome, Parser, and_then, ◌>>=◌, pure, refuse, next, expect, either, turns, repeat}
-use Rattle.phrases.proofs.Good.{Good, cond_is, bind_err, bool_cases}
+use Rattle.phrases.proofs.Good.{Fits, cond_is, bind_err, bool_cases}
 
 abbrev pub IsTooDeep : {T F A : Type 0} → F → Outcome T F A → Type 0
 IsTooDeep deep x = (left : ℕ) × (x ≡ Err (Refused deep left))
@@ -159,7 +159,7 @@ pub rel_map : {T F A B : Type 0} (deep : F) (p p' : Parser T F A) (f : A → B) 
 rel_map deep p p' f h = rel_bind deep p p' (λ a. pure (f a)) (λ a. pure (f a)) h (λ a. rel_pure deep (f a))
 
 -- a good parser takes from the front
-pub within_good : {T F A : Type 0} (L : Phrase T A) (stop : T → Bool) (p : Parser T F A) → Good L stop p → (ts : List T) → Within (length ts) (p ts)
+pub within_good : {T F A : Type 0} {gap : T → Bool} (L : Phrase T A) (stop : T → Bool) (p : Parser T F A) → Fits gap L stop p → (ts : List T) → Within (length ts) (p ts)
 within_good {T = T} {F = F} {A = A} L stop p gp ts = by_outcome (p ts) refl
   where
     by_outcome : (x : Outcome T F A) → p ts ≡ x → Within (length ts) x

@@ -5,3 +5,5 @@ pub mod Whole
 pub mod Deeper
 pub mod Levels
 pub mod Inside
+pub mod First
+pub mod Easing

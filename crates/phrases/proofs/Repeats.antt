@@ -1,24 +1,27 @@
 -- A repeated parser keeps what its turn keeps.
 use Rattle.std.proofs.Common.{◌≡◌, ℕ, zero, suc, ◌≤◌, Bool, true, false, List, [], ◌∷◌, ◌++◌, length, Ok, Err, refl, ap, sym, ◌∙◌, subst, ◌⊎◌, inl, inr, ⊎_elim, append_assoc, length-append, arith}
-use Rattle.std.proofs.lemmas.List.{append-nil}
+use Rattle.std.proofs.lemmas.List.{append-nil, append_cancel_right}
 use Rattle.phrases.specs.declared.refusal.ReadError.{ReadError}
 use Rattle.phrases.specs.declared.refusal.ReadError.TheVariants.{Refused}
 use Rattle.phrases.specs.Phrases.{Phrase, Repeated, done, more}
 use Rattle.phrases.specs.Parsers.{Outcome, Parser, and_then, head, passes, next, turns, repeat}
 use Rattle.phrases.specs.Promise.{Begins}
-use Rattle.phrases.proofs.Good.{Good, Takes, Refuses, head-append, bool_cases, bind_ok, bind_err, ok_is, cond_is, next-weaker}
+use Rattle.phrases.proofs.Good.{Fits, Gapped, free, Takes, Refuses, head-append, bool_cases, bind_ok, bind_err, ok_is, cond_is, next-weaker}
 
 -- what a turn keeps, and that the sorts of token tell whether another comes
-pub record Turn {T F A : Type 0} (M : A → Phrase T A) (stop sel : T → Bool) (turn : A → Parser T F A) : Type 0 where
-  pub good : (a : A) → Good (M a) stop (turn a)
+pub record Turns {T F A : Type 0} (gap : T → Bool) (M : A → Phrase T A) (stop sel : T → Bool) (turn : A → Parser T F A) : Type 0 where
+  pub good : (a : A) → Fits gap (M a) stop (turn a)
   pub begins : (a : A) (xs rest : List T) (b : A) → M a xs b → next sel (xs ++ rest) ≡ true
   pub apart : (t : T) → sel t ≡ true → stop t ≡ false
+
+abbrev pub Turn : {T F A : Type 0} → (A → Phrase T A) → (T → Bool) → (T → Bool) → (A → Parser T F A) → Type 0
+Turn M stop sel turn = Turns free M stop sel turn
 
 pub next-apart : {T : Type 0} (stop sel : T → Bool) → ((t : T) → sel t ≡ true → stop t ≡ false) → (ts : List T) → next sel ts ≡ true → next stop ts ≡ false
 next-apart stop sel h [] e = absurd (cc)
 next-apart stop sel h (t ∷ ts) e = h t e
 
-module _ {T F A : Type 0} (M : A → Phrase T A) (stop sel : T → Bool) (turn : A → Parser T F A) (t : Turn M stop sel turn) where
+module _ {T F A : Type 0} {gap : T → Bool} (M : A → Phrase T A) (stop sel : T → Bool) (turn : A → Parser T F A) (t : Turns gap M stop sel turn) where
   moves : (a b : A) (xs : List T) → M a xs b → 1 ≤ length xs
   moves a b [] l = let y = t.begins a [] [] b l in absurd (cc)
   moves a b (x ∷ xs) l = omega arith
@@ -146,22 +149,75 @@ module _ {T F A : Type 0} (M : A → Phrase T A) (stop sel : T → Bool) (turn :
   repeated_first a c ys rest (done _) = inl refl
   repeated_first a c ys rest (more _ b _ us vs l m) = inr (ap (λ x. next sel x) (append_assoc us vs rest) ∙ t.begins a us (vs ++ rest) b l)
 
-  turns_complete : (n : ℕ) (a b : A) (xs rest : List T) → Repeated M a xs b → length (xs ++ rest) ≤ n → next sel rest ≡ false → next stop rest ≡ false → turns sel turn n a (xs ++ rest) ≡ Ok (b, rest)
-  turns_complete n a b xs rest (done _) room h g = turns_stop n a rest h
+  -- a gap of the turns, whatever the count of turns that is enough
+  record Gap_in (a : A) (xs : List T) : Type 0 where
+    before : List T
+    mark : T
+    after : List T
+    fault : F
+    cut : xs ≡ before ++ mark ∷ after
+    is_gap : gap mark ≡ true
+    refused : (n : ℕ) (s : List T) → length (before ++ mark ∷ s) ≤ n → turns sel turn n a (before ++ mark ∷ s) ≡ Err (Refused fault (length (mark ∷ s)))
+
+  gap_first : (a b : A) (us vs rest : List T) → next sel (us ++ (vs ++ rest)) ≡ true → Gapped gap (turn a) us → Gap_in a (us ++ vs)
+  gap_first a b us vs rest y g = record {
+    before = g.before;
+    mark = g.mark;
+    after = g.after ++ vs;
+    fault = g.fault;
+    cut = ap (λ z. z ++ vs) g.cut ∙ append_assoc g.before (g.mark ∷ g.after) vs;
+    is_gap = g.is_gap;
+    refused = λ n s room. refused_here n a g.before g.mark s g.fault
+        (ap (passes sel) (head-append g.before (g.mark ∷ s) (g.mark ∷ (g.after ++ (vs ++ rest))) refl ∙ ap head (sym (append_assoc g.before (g.mark ∷ g.after) (vs ++ rest)) ∙ ap (λ z. z ++ (vs ++ rest)) (sym g.cut))) ∙ y)
+        room (g.refused s);
+  } where
+    refused_here : (n : ℕ) (a : A) (xs : List T) (x : T) (s : List T) (fault : F) → next sel (xs ++ x ∷ s) ≡ true → length (xs ++ x ∷ s) ≤ n → turn a (xs ++ x ∷ s) ≡ Err (Refused fault (length (x ∷ s))) → turns sel turn n a (xs ++ x ∷ s) ≡ Err (Refused fault (length (x ∷ s)))
+    refused_here zero a xs x s fault y room e = absurd (omega (arith, length-append xs (x ∷ s)))
+    refused_here (suc n) a xs x s fault y room e = turns_go n a (xs ++ x ∷ s) y ∙ ap (λ r. and_then r (turns sel turn n)) e
+
+  gap_later : (a c : A) (us vs rest : List T) → M a us c → turn a (us ++ (vs ++ rest)) ≡ Ok (c, vs ++ rest) → Takes (M a) (turn a) (us ++ (vs ++ rest)) c (vs ++ rest) → Gap_in c vs → Gap_in a (us ++ vs)
+  gap_later a c us vs rest l e t' g = record {
+    before = us ++ g.before;
+    mark = g.mark;
+    after = g.after;
+    fault = g.fault;
+    cut = ap (λ z. us ++ z) g.cut ∙ sym (append_assoc us g.before (g.mark ∷ g.after));
+    is_gap = g.is_gap;
+    refused = λ n s room.
+        let same : t'.text ≡ us = append_cancel_right t'.text us (vs ++ rest) (sym t'.cut) in
+        let here : head (g.before ++ g.mark ∷ s) ≡ head (vs ++ rest) = head-append g.before (g.mark ∷ s) (g.mark ∷ (g.after ++ rest)) refl ∙ ap head (sym (append_assoc g.before (g.mark ∷ g.after) rest) ∙ ap (λ z. z ++ rest) (sym g.cut)) in
+        let regroup = append_assoc us g.before (g.mark ∷ s) in
+        let room' : length (us ++ (g.before ++ g.mark ∷ s)) ≤ n = omega (arith, ap length regroup) in
+        let w = turns_went n a c us (g.before ++ g.mark ∷ s) l room' (ap (λ x. turn a (x ++ (g.before ++ g.mark ∷ s))) (sym same) ∙ t'.local (g.before ++ g.mark ∷ s) here) in
+        ap (turns sel turn n a) regroup ∙ w.2 ∙ g.refused w.0 s w.1;
+  }
+
+  turns_complete : (n : ℕ) (a b : A) (xs rest : List T) → Repeated M a xs b → length (xs ++ rest) ≤ n → next sel rest ≡ false → next stop rest ≡ false → (turns sel turn n a (xs ++ rest) ≡ Ok (b, rest)) ⊎ Gap_in a xs
+  turns_complete n a b xs rest (done _) room h g = inl (turns_stop n a rest h)
   turns_complete n a b xs rest (more _ c _ us vs l m) room h g =
       let regroup = append_assoc us vs rest in
       let room' : length (us ++ (vs ++ rest)) ≤ n = omega (arith, ap length regroup) in
       let ends : next stop (vs ++ rest) ≡ false = ⊎_elim (λ e. ap (passes stop) e ∙ g) (λ e. next-apart stop sel t.apart (vs ++ rest) e) (repeated_first c b vs rest m) in
-      let w = turns_went n a c us (vs ++ rest) l room' ((t.good a).complete us (vs ++ rest) c l ends) in
-      ap (turns sel turn n a) regroup ∙ w.2 ∙ turns_complete w.0 c b vs rest m w.1 h g
+      ⊎_elim
+      (λ e.
+      let w = turns_went n a c us (vs ++ rest) l room' e in
+      ⊎_elim
+      (λ f. inl (ap (turns sel turn n a) regroup ∙ w.2 ∙ f))
+      (λ k. inr (gap_later a c us vs rest l e ((t.good a).sound (us ++ (vs ++ rest)) (vs ++ rest) c e) k))
+      (turns_complete w.0 c b vs rest m w.1 h g))
+      (λ k. inr (gap_first a c us vs rest (t.begins a us (vs ++ rest) c l) k))
+      ((t.good a).complete us (vs ++ rest) c l ends)
+
+  gapped_in : (a : A) (xs : List T) → Gap_in a xs → Gapped gap (repeat sel turn a) xs
+  gapped_in a xs g = record { before = g.before; mark = g.mark; after = g.after; fault = g.fault; cut = g.cut; is_gap = g.is_gap; refused = λ s. g.refused (length (g.before ++ g.mark ∷ s)) s (omega arith) }
 
   -- a token that neither begins a turn nor goes on with one
-  pub good_repeat : (all : T → Bool) → ((x : T) → all x ≡ false → sel x ≡ false) → ((x : T) → all x ≡ false → stop x ≡ false) → (a : A) → Good (Repeated M a) all (repeat sel turn a)
+  pub good_repeat : (all : T → Bool) → ((x : T) → all x ≡ false → sel x ≡ false) → ((x : T) → all x ≡ false → stop x ≡ false) → (a : A) → Fits gap (Repeated M a) all (repeat sel turn a)
   good_repeat all not_sel not_stop a = record {
     sound = λ ts rest b h.
         let u = turns_sound (length ts) a b ts rest (omega arith) h in
         record { text = u.text; cut = u.cut; reads = u.reads; local = λ s same. u.local (length (u.text ++ s)) s (omega arith) same };
-    complete = λ xs rest b l h. turns_complete (length (xs ++ rest)) a b xs rest l (omega arith) (next-weaker sel all not_sel rest h) (next-weaker stop all not_stop rest h);
+    complete = λ xs rest b l h. ⊎_elim (λ e. inl e) (λ g. inr (gapped_in a xs g)) (turns_complete (length (xs ++ rest)) a b xs rest l (omega arith) (next-weaker sel all not_sel rest h) (next-weaker stop all not_stop rest h));
     refuses = λ ts e h.
         let r = turns_refuses (length ts) a ts e (omega arith) h in
         record { before = r.before; rest = r.rest; fault = r.fault; is = r.is; cut = r.cut; viable = r.viable; local = λ s same. r.local (length (r.before ++ s)) s (omega arith) same };

@@ -3,8 +3,8 @@ use Rattle.std.proofs.Common.{◌≡◌, ℕ, suc, ◌+◌, ◌-◌, ◌<◌, �
 use Rattle.std.proofs.lemmas.List.{append-nil}
 use Rattle.phrases.specs.Phrases.{Phrase, Both, nothing, token, Repeated, done}
 use Rattle.phrases.specs.Parsers.{Parser, pure, passes, next, expect, repeat, ◌>>=◌}
-use Rattle.phrases.proofs.Good.{Good, Some, good_pure, good_expect, good_bind}
-use Rattle.phrases.proofs.Repeats.{Turn, good_repeat, repeated_first, next-apart}
+use Rattle.phrases.proofs.Good.{Fits, Some, free, good_pure, good_expect, good_bind}
+use Rattle.phrases.proofs.Repeats.{Turns, good_repeat, repeated_first, next-apart}
 
 -- ---- texts of phrases
 
@@ -30,10 +30,6 @@ pub or_right : (a b : Bool) → (a || b) ≡ false → b ≡ false
 or_right true b h = absurd (cc)
 or_right false b h = h
 
--- no token
-abbrev pub free : {T : Type 0} → T → Bool
-free t = false
-
 pub next-free : {T : Type 0} (ts : List T) → next free ts ≡ false
 next-free [] = refl
 next-free (t ∷ ts) = refl
@@ -50,12 +46,12 @@ begins_nothing a sel c xs rest b l h = ap (λ x. next sel (x ++ rest)) l.0 ∙ h
 
 -- ---- shapes
 
-pub good_map : {T F A B : Type 0} (L : Phrase T A) (p : Parser T F A) (stop : T → Bool) → Good L stop p → (f : A → B) → Good (Both L (λ a. nothing (f a))) stop (p >>= (λ a. pure (f a)))
+pub good_map : {T F A B : Type 0} {gap : T → Bool} (L : Phrase T A) (p : Parser T F A) (stop : T → Bool) → Fits gap L stop p → (f : A → B) → Fits gap (Both L (λ a. nothing (f a))) stop (p >>= (λ a. pure (f a)))
 good_map L p stop gp f = good_bind L (λ a. nothing (f a)) p (λ a. pure (f a)) stop stop gp (λ a. good_pure (f a) stop)
     (λ a ys rest b l h. ap (λ y. next stop (y ++ rest)) l.0 ∙ h) (λ a. some_nothing (f a))
 
 -- a token, and what follows it
-pub good_after : {T F B : Type 0} (fault : F) (test : T → Bool) (M : T → Phrase T B) (q : T → Parser T F B) (stop : T → Bool) → ((t : T) → Good (M t) stop (q t)) → ((t : T) → Some (M t)) → Good (Both (token test) M) stop (expect fault test >>= q)
+pub good_after : {T F B : Type 0} {gap : T → Bool} (fault : F) (test : T → Bool) (M : T → Phrase T B) (q : T → Parser T F B) (stop : T → Bool) → ((t : T) → Fits gap (M t) stop (q t)) → ((t : T) → Some (M t)) → Fits gap (Both (token test) M) stop (expect fault test >>= q)
 good_after fault test M q stop gq some = good_bind (token test) M (expect fault test) q free stop (good_expect fault test free) gq (λ a ys rest b l h. next-free (ys ++ rest)) some
 
 pub next-or_left : {T : Type 0} (a b : T → Bool) (ts : List T) → next (λ x. a x || b x) ts ≡ false → next a ts ≡ false
@@ -67,15 +63,15 @@ next-or_right a b [] h = refl
 next-or_right a b (t ∷ ts) h = or_right (a t) (b t) h
 
 -- a repetition: what begins a turn goes on with it, and what goes on with a turn
-pub good_repeated : {T F A : Type 0} (M : A → Phrase T A) (stop sel : T → Bool) (turn : A → Parser T F A) → Turn M stop sel turn → (a : A) → Good (Repeated M a) (λ x. sel x || stop x) (repeat sel turn a)
+pub good_repeated : {T F A : Type 0} {gap : T → Bool} (M : A → Phrase T A) (stop sel : T → Bool) (turn : A → Parser T F A) → Turns gap M stop sel turn → (a : A) → Fits gap (Repeated M a) (λ x. sel x || stop x) (repeat sel turn a)
 good_repeated M stop sel turn t a = good_repeat M stop sel turn t (λ x. sel x || stop x) (λ x h. or_left (sel x) (stop x) h) (λ x h. or_right (sel x) (stop x) h) a
 
-pub after_repeated : {T F A : Type 0} (M : A → Phrase T A) (stop sel : T → Bool) (turn : A → Parser T F A) → Turn M stop sel turn → (a b : A) (ys rest : List T) → Repeated M a ys b → next stop rest ≡ false → next stop (ys ++ rest) ≡ false
+pub after_repeated : {T F A : Type 0} {gap : T → Bool} (M : A → Phrase T A) (stop sel : T → Bool) (turn : A → Parser T F A) → Turns gap M stop sel turn → (a b : A) (ys rest : List T) → Repeated M a ys b → next stop rest ≡ false → next stop (ys ++ rest) ≡ false
 after_repeated M stop sel turn t a b ys rest l h = ⊎_elim (λ e. ap (passes stop) e ∙ h) (λ e. next-apart stop sel t.apart (ys ++ rest) e) (repeated_first M stop sel turn t a b ys rest l)
 
 -- a rule, and as many turns as come after it
-pub good_list : {T F A B : Type 0} (L : Phrase T A) (p : Parser T F A) (stop : T → Bool) (M : B → Phrase T B) (sel : T → Bool) (turn : B → Parser T F B) (f : A → B)
-    → Good L stop p → Turn M stop sel turn → Good (Both L (λ a. Repeated M (f a))) (λ x. sel x || stop x) (p >>= (λ a. repeat sel turn (f a)))
+pub good_list : {T F A B : Type 0} {gap : T → Bool} (L : Phrase T A) (p : Parser T F A) (stop : T → Bool) (M : B → Phrase T B) (sel : T → Bool) (turn : B → Parser T F B) (f : A → B)
+    → Fits gap L stop p → Turns gap M stop sel turn → Fits gap (Both L (λ a. Repeated M (f a))) (λ x. sel x || stop x) (p >>= (λ a. repeat sel turn (f a)))
 good_list L p stop M sel turn f gp t = good_bind L (λ a. Repeated M (f a)) p (λ a. repeat sel turn (f a)) stop (λ x. sel x || stop x) gp
     (λ a. good_repeated M stop sel turn t (f a))
     (λ a ys rest b l h. after_repeated M stop sel turn t (f a) b ys rest l (next-or_right sel stop rest h))
@@ -90,7 +86,7 @@ next-same sel test c h [] e = absurd (cc)
 next-same sel test c h (t ∷ ts) e = h t e
 
 -- what a test says of the first token of a repetition and what follows it
-pub begins_repeated : {T F A B : Type 0} (M : A → Phrase T A) (stop sel : T → Bool) (turn : A → Parser T F A) → Turn M stop sel turn → (N : A → Phrase T B) (test : T → Bool) (c : Bool)
+pub begins_repeated : {T F A B : Type 0} {gap : T → Bool} (M : A → Phrase T A) (stop sel : T → Bool) (turn : A → Parser T F A) → Turns gap M stop sel turn → (N : A → Phrase T B) (test : T → Bool) (c : Bool)
     → ((t : T) → sel t ≡ true → test t ≡ c) → ((a : A) (ys rest : List T) (b : B) → N a ys b → next test (ys ++ rest) ≡ c)
     → (a : A) (zs rest : List T) (b : B) → Both (Repeated M a) N zs b → next test (zs ++ rest) ≡ c
 begins_repeated M stop sel turn t N test c turns_do after_does a zs rest b l =

@@ -7,7 +7,7 @@ use Rattle.phrases.specs.declared.refusal.ReadError.TheVariants.{NoMemory, Refus
 use Rattle.phrases.specs.Phrases.{Phrase}
 use Rattle.phrases.specs.Parsers.{Parser, Outcome, head, ended, Ends}
 use Rattle.phrases.specs.Promise.{Begins, EndsNone, IsUnexpected}
-use Rattle.phrases.proofs.Good.{Good, Some}
+use Rattle.phrases.proofs.Good.{Good, Some, completes}
 
 module _ {T F A : Type 0} (L : Phrase T A) (stop : T → Bool) (p : Parser T F A) (gp : Good L stop p) (over : F) where
   ended_ok : (r : Outcome T F A) (a : A) → ended over r ≡ Ok a → r ≡ Ok (a, [])
@@ -24,7 +24,7 @@ module _ {T F A : Type 0} (L : Phrase T A) (stop : T → Bool) (p : Parser T F A
   read_sound ts a h = let t = gp.sound ts [] a (ended_ok (p ts) a h) in subst (λ x. L x a) (sym (t.cut ∙ append-nil t.text)) t.reads
 
   pub read_complete : (ts : List T) (a : A) → L ts a → ended over (p ts) ≡ Ok a
-  read_complete ts a l = ap (λ x. ended over (p x)) (sym (append-nil ts)) ∙ ap (ended over) (gp.complete ts [] a l refl)
+  read_complete ts a l = ap (λ x. ended over (p x)) (sym (append-nil ts)) ∙ ap (ended over) (completes L stop p gp ts [] a l refl)
 
   -- what is refused however it goes on begins no text
   no_more_text : (before : List T) (t : T) → ((more : List T) → (d : ReadError F) × (ended over (p (before ++ t ∷ more)) ≡ Err d)) → Begins L (before ++ t ∷ []) → ⊥

@@ -4,5 +4,3 @@ pub mod GoodSchema
 pub mod Semicolons
 pub mod Sound
 pub mod SchemaLaws
-pub mod Frames
-pub mod Texts

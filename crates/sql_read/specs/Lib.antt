@@ -4,6 +4,4 @@ pub mod Tokens
 pub mod Schema
 pub mod SchemaParsers
 pub mod SchemaText
-pub mod Framed
-pub mod Thin
 pub mod Reserved

@@ -71,6 +71,10 @@ pub enum Kind {
     Star,
     Plus,
     Minus,
+    /// A `+` between a date and INTERVAL, which belongs to the date: a `+` that a reader of queries has found there.
+    StepPlus,
+    /// A `-` between a date and INTERVAL.
+    StepMinus,
     Slash,
     Equal,
     Differs,
@@ -157,6 +161,7 @@ pub fn word_kind(word: &[u8]) -> Kind
     lookup(&RESERVED, word)
 }
 
+/// Whether two kinds are one.
 #[tactic(auto, unfolding(crate::specs::Kinds::same_kind))]
 pub fn same_kind(a: Kind, b: Kind) -> bool
     ensures { result ≡ same_kind_lem a b }

@@ -73,7 +73,7 @@ fn word(z: &[u8]) -> Piece
 const MAX_INTEGER: u128 = 0x7fff_ffff_ffff_ffff_ffff_ffff_ffff_ffff;
 
 /// The digits' value, if it is at most 2^127 - 1.
-fn integer_within(mut z: &[u8]) -> Option<u128>
+pub fn integer_within(mut z: &[u8]) -> Option<u128>
     ensures { result ≡ spec.integer_within z.entry.now }
 {
     let mut value: u128 = 0;

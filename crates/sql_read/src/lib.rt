@@ -10,19 +10,17 @@ mod listing;
 mod refusal;
 mod schema;
 mod schema_text;
-mod thin;
 mod token_list;
 mod words;
 
 pub use definition::{ColumnDef, ColumnKind, KeyDef, TableDef};
-pub use kind::Kind;
+pub use kind::{Kind, same_kind};
+pub use lexis::integer_within;
 pub use listing::Listing;
 pub use refusal::{SqlKind, SqlRefusal};
-pub use schema_text::read_schema;
-pub use thin::thin_query;
+pub use schema_text::{read_schema, refused_for_itself};
 pub use token_list::{Token, tokens};
+pub use words::{extent, name_at};
 
 #[cfg(test)]
 mod tests;
-#[cfg(test)]
-mod thin_tests;

@@ -38,7 +38,8 @@ fn whole(
     }
 }
 
-fn refused_for_itself(kind: Kind) -> Option<SqlKind>
+/// The kind of a refusal of a token for its own sake, wherever it stands.
+pub fn refused_for_itself(kind: Kind) -> Option<SqlKind>
     ensures { result ≡ own_kind kind }
 {
     match kind {

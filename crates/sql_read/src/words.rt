@@ -9,7 +9,7 @@ use io_edge::Name;
 use std::alloc::{AllocError, Global};
 
 /// The bytes that a token takes.
-fn extent(text: &[u8], t: Token) -> &[u8]
+pub fn extent(text: &[u8], t: Token) -> &[u8]
     ensures { result.now ≡ spec.extent text.now t }
 {
     let from = text.len().min(t.at as usize);

@@ -1,0 +1,11 @@
+mod DateFacts
+mod Spans
+mod TokenKinds
+mod Checked
+mod FitsAtoms
+mod FitsExpressions
+mod FitsClauses
+mod Levels
+mod Lenient
+mod LenientQueries
+mod QueryLaws

@@ -1,0 +1,33 @@
+use Rattle.std.proofs.Common.{rules, arith}
+use Rattle.std.proofs.lemmas.Grind.{common_steps}
+use Rattle.phrases.specs.Parsers.{turns}
+use Rattle.phrases.proofs.Shapes.{one_more, no_more}
+use Rattle.std.proofs.Common.{to_z, w32}
+use Rattle.query_read.specs.Asked.{all}
+use Rattle.query_read.specs.Nodes.{of, steps}
+use Rattle.query_read.specs.ExpressionParsers as rules_of
+use Rattle.query_read.proofs.dates.more_steps.Goals as goal
+
+pub returns-then-not-is_next_of : goal.returns-then-not-is_next_of
+unfolding turns
+returns-then-not-is_next_of c =
+    let e = one_more (λ n. turns (of steps) (rules_of.step all c.args.text.now) n (to_z w32 c.loop-turn.now-bits) c.loop-turn.tokens) _ c.loop-turn._turn c.loop-turn-test.true c.loop-turn.invariant in
+    first_of (search rules, grind (arith, common_steps))
+
+pub returns-in_err-now : goal.returns-in_err-now
+unfolding turns
+returns-in_err-now c =
+    let e = one_more (λ n. turns (of steps) (rules_of.step all c.args.text.now) n (to_z w32 c.loop-turn.now-bits) c.loop-turn.tokens) _ c.loop-turn._turn c.loop-turn-test.true c.loop-turn.invariant in
+    first_of (search rules, grind (arith, common_steps))
+
+pub loop-turn-preserved : goal.loop-turn-preserved
+unfolding turns
+loop-turn-preserved c =
+    let e = one_more (λ n. turns (of steps) (rules_of.step all c.args.text.now) n (to_z w32 c.loop-turn.now-bits) c.loop-turn.tokens) _ c.loop-turn._turn c.loop-turn-test.true c.loop-turn.invariant in
+    first_of (search rules, grind (arith, common_steps))
+
+pub returns : goal.returns
+unfolding turns
+returns c =
+    let e = no_more (λ n. turns (of steps) (rules_of.step all c.args.text.now) n (to_z w32 c.loop-turn.now-bits) c.loop-turn.tokens) _ c.loop-turn._turn c.loop-turn-test.false c.loop-turn.invariant in
+    first_of (search rules, grind (arith, common_steps))

@@ -1,0 +1,10 @@
+pub mod Asked
+pub mod Days
+pub mod Marked
+pub mod Nodes
+pub mod Classes
+pub mod Expressions
+pub mod Clauses
+pub mod ExpressionParsers
+pub mod ClauseParsers
+pub mod QueryText

@@ -1,0 +1,11 @@
+//! What stands in parentheses.
+
+use crate::tree::Expr;
+
+/// An expression in parentheses.
+#[derive(Drop)]
+pub struct Enclosure {
+    /// The first byte of the parenthesis.
+    pub at: u32,
+    pub value: Expr,
+}

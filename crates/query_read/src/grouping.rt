@@ -1,0 +1,11 @@
+//! What GROUP BY says.
+
+use crate::tree::{ColumnName, Expr};
+use sql_read::Listing;
+
+/// The columns of GROUP BY, and the condition of its HAVING.
+#[derive(Drop)]
+pub struct Grouping {
+    pub groups: Listing<ColumnName>,
+    pub having: Option<Expr>,
+}

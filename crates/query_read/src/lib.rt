@@ -1,0 +1,30 @@
+//! SQL queries, read.
+//!
+//! [`read_query`] gives the tree of a query as it is written, or the first refusal. What its names mean is for the layer above.
+#![tactic(auto)]
+
+mod atoms;
+mod clauses;
+mod dates;
+mod days;
+mod enclosing;
+mod expecting;
+mod expr;
+mod fault;
+mod grouping;
+mod literals;
+mod marking;
+mod nodes;
+mod query;
+mod query_text;
+mod sources;
+mod tree;
+
+pub use query_text::read_query;
+pub use tree::{
+    AggregateKind, Alias, BinaryOp, ColumnName, Direction, Divisor, Expr, Form, Join, JoinKind,
+    Polarity, Query, SelectItem, SelectList, Sign, SortBy, SortKey, Source, TableName,
+};
+
+#[cfg(test)]
+mod tests;

@@ -1,0 +1,42 @@
+//! What stands in text literals.
+
+ghost use Rattle.std.specs.Prelude.{◌≡◌, IfOk, false};
+ghost use Rattle.query_read.specs.Days as spec;
+
+use sql_read::{Listing, Token, extent};
+use std::alloc::{AllocError, Global};
+
+/// The bytes between the quotes of a literal.
+pub fn inner(text: &[u8], t: Token) -> &[u8]
+    ensures { result.now ≡ spec.inner text.now t }
+{
+    let z = extent(text, t);
+    let rest = &z[z.len().min(1)..];
+    &rest[..rest.len().min((t.len as usize).saturating_sub(2))]
+}
+
+/// The value of what stands between quotes: two quotes in a row are one.
+fn single_quoted(alloc: Global, z: &[u8]) -> Result<Listing<u8>, AllocError>
+    ensures { IfOk result (λ v. v ≡ spec.single_quoted false z.now) }
+{
+    let mut out = Listing::new(alloc);
+    let mut is_second = false;
+    let mut ahead = z;
+    while let [b, rest @ ..] = ahead {
+        if is_second {
+            is_second = false;
+        } else {
+            out.push(*b)?;
+            is_second = *b == b'\'';
+        }
+        ahead = rest;
+    }
+    Ok(out)
+}
+
+/// The value of a text literal.
+pub fn content(alloc: Global, text: &[u8], t: Token) -> Result<Listing<u8>, AllocError>
+    ensures { IfOk result (λ v. v ≡ spec.content text.now t) }
+{
+    single_quoted(alloc, inner(text, t))
+}

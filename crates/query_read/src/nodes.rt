@@ -1,0 +1,172 @@
+//! What the tokens of a rule make.
+
+ghost use Rattle.std.specs.Prelude.{◌≡◌, IfOk};
+ghost use Rattle.query_read.specs.Nodes as spec;
+
+use crate::tree::{AggregateKind, BinaryOp, ColumnName, Divisor, Expr, Form, Polarity, Sign};
+use sql_read::{Kind, Token, name_at};
+use sqlite_items::{Boxed, Items};
+use std::alloc::{AllocError, Global};
+
+pub fn sign_of(kind: Kind) -> Sign
+    ensures { result ≡ spec.sign_of kind }
+{
+    match kind {
+        Kind::Minus | Kind::StepMinus => Sign::Minus,
+        _ => Sign::Plus,
+    }
+}
+
+pub fn sum_op(kind: Kind) -> BinaryOp
+    ensures { result ≡ spec.sum_op kind }
+{
+    match kind {
+        Kind::Minus => BinaryOp::Subtract,
+        _ => BinaryOp::Add,
+    }
+}
+
+pub fn comparison(kind: Kind) -> BinaryOp
+    ensures { result ≡ spec.comparison kind }
+{
+    match kind {
+        Kind::Differs => BinaryOp::Differs,
+        Kind::Less => BinaryOp::Less,
+        Kind::LessEqual => BinaryOp::LessEqual,
+        Kind::Greater => BinaryOp::Greater,
+        Kind::GreaterEqual => BinaryOp::GreaterEqual,
+        _ => BinaryOp::Equal,
+    }
+}
+
+pub fn aggregate_of(kind: Kind) -> AggregateKind
+    ensures { result ≡ spec.aggregate_of kind }
+{
+    match kind {
+        Kind::Min => AggregateKind::Min,
+        Kind::Max => AggregateKind::Max,
+        Kind::Avg => AggregateKind::Avg,
+        _ => AggregateKind::Sum,
+    }
+}
+
+pub fn node(at: u32, form: Form) -> Expr
+    ensures { result ≡ spec.node at form }
+{
+    Expr { at, form }
+}
+
+pub fn date_node(at: u32, day: i32) -> Expr
+    ensures { result ≡ spec.node at (Form.Date day) }
+{
+    node(at, Form::Date(day))
+}
+
+/// Two expressions, from the first byte of the left one on.
+pub fn binary(alloc: Global, op: BinaryOp, at: u32, a: Expr, b: Expr) -> Result<Expr, AllocError>
+    ensures { IfOk result (λ x. x ≡ spec.binary op at a b) }
+{
+    let first = a.at;
+    let left = Boxed::new(alloc, a)?;
+    let right = Boxed::new(alloc, b)?;
+    Ok(node(first, Form::Binary(op, at, left, right)))
+}
+
+pub fn divisor_of(sign: Option<Sign>, n: Token) -> Divisor
+    ensures { result ≡ spec.divisor_of sign n }
+{
+    Divisor {
+        sign,
+        value: n.value,
+        value_at: n.at,
+    }
+}
+
+pub fn divided(alloc: Global, at: u32, a: Expr, by: Divisor) -> Result<Expr, AllocError>
+    ensures { IfOk result (λ x. x ≡ spec.divided at a by) }
+{
+    let first = a.at;
+    Ok(node(first, Form::Divide(at, Boxed::new(alloc, a)?, by)))
+}
+
+pub fn aggregated(alloc: Global, t: Token, of: Expr) -> Result<Expr, AllocError>
+    ensures { IfOk result (λ x. x ≡ spec.node t.at (Form.Aggregate (spec.aggregate_of t.kind) of)) }
+{
+    let of = Boxed::new(alloc, of)?;
+    Ok(node(t.at, Form::Aggregate(aggregate_of(t.kind), of)))
+}
+
+pub fn enclosed_node(alloc: Global, at: u32, of: Expr) -> Result<Expr, AllocError>
+    ensures { IfOk result (λ x. x ≡ spec.node at (Form.Enclosed of)) }
+{
+    Ok(node(at, Form::Enclosed(Boxed::new(alloc, of)?)))
+}
+
+pub fn not_node(alloc: Global, at: u32, of: Expr) -> Result<Expr, AllocError>
+    ensures { IfOk result (λ x. x ≡ spec.node at (Form.Not of)) }
+{
+    Ok(node(at, Form::Not(Boxed::new(alloc, of)?)))
+}
+
+pub fn signed_node(alloc: Global, s: Token, of: Expr) -> Result<Expr, AllocError>
+    ensures { IfOk result (λ x. x ≡ spec.node s.at (Form.Signed (spec.sign_of s.kind) of)) }
+{
+    Ok(node(s.at, Form::Signed(sign_of(s.kind), Boxed::new(alloc, of)?)))
+}
+
+pub fn between_node(
+    alloc: Global,
+    polarity: Polarity,
+    at: u32,
+    a: Expr,
+    low: Expr,
+    high: Expr,
+) -> Result<Expr, AllocError>
+    ensures { IfOk result (λ x. x ≡ spec.node a.at (Form.Between polarity at a low high)) }
+{
+    let first = a.at;
+    let a = Boxed::new(alloc, a)?;
+    let low = Boxed::new(alloc, low)?;
+    let high = Boxed::new(alloc, high)?;
+    Ok(node(first, Form::Between(polarity, at, a, low, high)))
+}
+
+pub fn in_node(
+    alloc: Global,
+    polarity: Polarity,
+    at: u32,
+    a: Expr,
+    among: Items<Expr>,
+) -> Result<Expr, AllocError>
+    ensures { IfOk result (λ x. x ≡ spec.node a.at (Form.In polarity at a among)) }
+{
+    let first = a.at;
+    let a = Boxed::new(alloc, a)?;
+    Ok(node(first, Form::In(polarity, at, a, among)))
+}
+
+/// A column's name alone.
+pub fn bare(alloc: Global, text: &[u8], n: Token) -> Result<ColumnName, AllocError>
+    ensures { IfOk result (λ c. c ≡ spec.bare text.now n) }
+{
+    Ok(ColumnName {
+        at: n.at,
+        table: None,
+        name: name_at(alloc, text, n)?,
+        name_at: n.at,
+    })
+}
+
+/// A column's name behind its table's.
+pub fn qualified(alloc: Global, text: &[u8], n: Token, c: Token) -> Result<ColumnName, AllocError>
+    ensures { IfOk result (λ x. x ≡ spec.qualified text.now n c) }
+{
+    let table = name_at(alloc, text, n)?;
+    let name = name_at(alloc, text, c)?;
+    Ok(ColumnName {
+        at: n.at,
+        table: Some(table),
+        name,
+        name_at: c.at,
+    })
+}
