@@ -2,5 +2,6 @@ pub mod Folders
 pub mod Answered
 pub mod NarrowStores
 pub mod TablesLaws
+pub mod Then
 pub mod Limits
 pub mod SchemaFaults

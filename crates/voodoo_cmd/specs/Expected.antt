@@ -1,9 +1,10 @@
 -- What a run is expected to answer, from the words and the files alone: the first refusal in the order of the steps, or the text.
-use Rattle.std.specs.Prelude.{ℕ, ◌-◌, List, [], ◌∷◌, codes, take, slice_get, Ok, Err}
+use Rattle.std.specs.Prelude.{ℕ, ◌-◌, if◌then◌else◌, List, [], ◌∷◌, take, slice_get, Ok, Err}
 use Rattle.std.specs.Option.{option_map}
 use Rattle.control_vectors.specs.Slots.{Slot, numbers}
 use Rattle.io_edge.specs.Shelves.{FileMap}
 use Rattle.row_print.specs.Results.{results_text, rows_text, slot_field}
+use Rattle.query_read.specs.declared.tree.Query.{Query}
 use Rattle.sql_read.specs.declared.definition.TableDef.{TableDef}
 use Rattle.table_load.specs.Databases.{DatabaseValue}
 use Rattle.voodoo_ops.specs.Meaning.{meaning}
@@ -13,21 +14,33 @@ use Rattle.voodoo_cmd.specs.declared.words.Mode.{Mode}
 use Rattle.voodoo_cmd.specs.declared.words.Mode.TheVariants.{Sql, Algebra}
 use Rattle.voodoo_cmd.specs.declared.status.FileRole.{FileRole}
 use Rattle.voodoo_cmd.specs.declared.status.FileRole.TheVariants.{Schema, Table, Text}
-use Rattle.voodoo_cmd.specs.declared.status.Status.TheVariants.{ReadFault}
+use Rattle.voodoo_cmd.specs.declared.status.Status.TheVariants.{ReadFault, NotYet}
+use Rattle.voodoo_cmd.specs.Asked.{Asked, sum_asked}
 use Rattle.voodoo_cmd.specs.Outcomes.{Outcome, or_refuse, ◌>>=◌}
 use Rattle.voodoo_cmd.specs.Paths.{table_file}
-use Rattle.voodoo_cmd.specs.Steps.{request_in, catalog_in, tables_from, database_in, query_in, program_in, results_outcome}
+use Rattle.voodoo_cmd.specs.Steps.{request_in, catalog_in, tables_from, database_in, query_in, has_integer_column, column_slots, program_in, results_outcome}
 
 -- ---- the answer
 
 -- two rows: the header, and the exact total, which is null where there is no row. At most 2^20 numbers of 64 bits stay within 128 bits
-abbrev pub sum_text : List Slot → List ℕ
-sum_text slots = rows_text ((codes "c1" ∷ []) ∷ (slot_field (total_slot (numbers slots)) ∷ []) ∷ [])
+abbrev pub sum_text : List ℕ → List Slot → List ℕ
+sum_text header slots = rows_text ((header ∷ []) ∷ (slot_field (total_slot (numbers slots)) ∷ []) ∷ [])
+
+-- the answer to the one question, where the schema has such a table with such a column of whole numbers
+abbrev pub asked_text : DatabaseValue → Asked → Outcome (List ℕ)
+asked_text db a =
+    if has_integer_column db.defs (a.table, a.column)
+    then Ok (sum_text a.header (column_slots db (a.table, a.column)))
+    else Err (NotYet Text)
+
+abbrev pub query_text : DatabaseValue → Query → Outcome (List ℕ)
+query_text db query = or_refuse (NotYet Text) (sum_asked query) >>= asked_text db
+
+abbrev pub query_answer : FileMap → List ℕ → DatabaseValue → Outcome (List ℕ)
+query_answer files text db = query_in files text >>= query_text db
 
 abbrev pub answer_of : Mode → FileMap → List ℕ → DatabaseValue → Outcome (List ℕ)
-answer_of Sql files text db = do
-  slots ← query_in files text db
-  Ok (sum_text slots)
+answer_of Sql files text db = query_answer files text db
 answer_of Algebra files text db = do
   program ← program_in files text db
   named ← results_outcome (meaning (tables db.store) program)

@@ -6,7 +6,7 @@ use Rattle.voodoo_cmd.specs.declared.status.FileRole.{FileRole}
 use Rattle.voodoo_cmd.specs.declared.status.FileRole.TheVariants.{Schema, Table, Text}
 use Rattle.voodoo_cmd.specs.declared.status.LimitWhat.TheVariants.{File}
 use Rattle.voodoo_cmd.specs.declared.status.Status.{Status}
-use Rattle.voodoo_cmd.specs.declared.status.Status.TheVariants.{Done, Usage, ReadFault, WriteFault, SchemaRefused, DataRefused, LimitReached, Overflow, NotYet, NoMemory}
+use Rattle.voodoo_cmd.specs.declared.status.Status.TheVariants.{Done, Usage, ReadFault, WriteFault, SchemaRefused, DataRefused, QueryRefused, LimitReached, Overflow, NotYet, NoMemory}
 use Rattle.voodoo_cmd.specs.Outcomes.{Outcome, or_refuse, ◌>>=◌}
 
 -- how long a file may be
@@ -15,18 +15,23 @@ file_limit Schema = 65536
 file_limit (Table k) = 2 ^ 28
 file_limit Text = 65536
 
--- a file that is longer: a schema and a table pass their limit, and a text is not read yet
+-- the limit that a longer file passes
 abbrev pub past_limit : FileRole → Status
-past_limit Text = NotYet Text
 past_limit role = LimitReached (File role) (file_limit role + 1)
 
--- bytes that are not too long
-abbrev pub within_limit : FileRole → List ℕ → Outcome (List ℕ)
-within_limit role bytes = if nat_le (length bytes) (file_limit role) then Ok bytes else Err (past_limit role)
+-- bytes that are not too long, or else this status
+abbrev pub within_limit : FileRole → Status → List ℕ → Outcome (List ℕ)
+within_limit role past bytes = if nat_le (length bytes) (file_limit role) then Ok bytes else Err past
 
--- the bytes of a file in its role
-abbrev pub file_in : FileMap → FileRole → List ℕ → Outcome (List ℕ)
-file_in files role name = or_refuse (ReadFault role) (files name) >>= within_limit role
+-- the bytes of a file in its role, or this status where it is too long
+abbrev pub file_in : FileMap → FileRole → Status → List ℕ → Outcome (List ℕ)
+file_in files role past name = or_refuse (ReadFault role) (files name) >>= within_limit role past
+
+-- what a file that is too long may be answered: its limit, or that it is not read yet
+abbrev pub IsPast : FileRole → Status → Type 0
+IsPast role (LimitReached what number) = LimitReached what number ≡ past_limit role
+IsPast role (NotYet r) = r ≡ role
+IsPast role _ = ⊥
 
 -- How the reading of a file in its role may end but with its value. A read fault comes only where the count of faults rose, or the
 -- shelf tells that it lacks the file.
@@ -36,6 +41,7 @@ HasFileCause holds role name before now (NotYet r) = r ≡ role
 HasFileCause holds role name before now NoMemory = Unit {0}
 HasFileCause holds role name before now (SchemaRefused at kind) = Unit {0}
 HasFileCause holds role name before now (DataRefused table at_record at_column kind) = Unit {0}
+HasFileCause holds role name before now (QueryRefused at kind) = Unit {0}
 HasFileCause holds role name before now (LimitReached what number) = Unit {0}
 HasFileCause holds role name before now _ = ⊥
 
@@ -56,6 +62,12 @@ abbrev pub IsTextRefusal : Status → Type 0
 IsTextRefusal (NotYet Text) = Unit {0}
 IsTextRefusal NoMemory = Unit {0}
 IsTextRefusal _ = ⊥
+
+-- a refusal of the query, or want of memory
+abbrev pub IsQueryRefusal : Status → Type 0
+IsQueryRefusal (QueryRefused at kind) = Unit {0}
+IsQueryRefusal NoMemory = Unit {0}
+IsQueryRefusal _ = ⊥
 
 -- a number that leaves 128 bits, or want of memory
 abbrev pub IsRunRefusal : Status → Type 0

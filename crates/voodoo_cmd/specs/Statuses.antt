@@ -13,10 +13,12 @@ use Rattle.voodoo_cmd.specs.declared.status.FileRole.{FileRole}
 use Rattle.voodoo_cmd.specs.declared.status.FileRole.TheVariants.{Schema, Table, Text}
 use Rattle.voodoo_cmd.specs.declared.status.SchemaCause.{SchemaCause}
 use Rattle.voodoo_cmd.specs.declared.status.SchemaCause.TheVariants as cause
+use Rattle.voodoo_cmd.specs.declared.status.QueryCause.{QueryCause}
+use Rattle.voodoo_cmd.specs.declared.status.QueryCause.TheVariants as query_cause
 use Rattle.voodoo_cmd.specs.declared.status.LimitWhat.{LimitWhat}
 use Rattle.voodoo_cmd.specs.declared.status.LimitWhat.TheVariants as limit
 use Rattle.voodoo_cmd.specs.declared.status.Status.{Status}
-use Rattle.voodoo_cmd.specs.declared.status.Status.TheVariants.{Done, Usage, ReadFault, WriteFault, SchemaRefused, DataRefused, LimitReached, Overflow, NotYet, NoMemory}
+use Rattle.voodoo_cmd.specs.declared.status.Status.TheVariants.{Done, Usage, ReadFault, WriteFault, SchemaRefused, DataRefused, QueryRefused, LimitReached, Overflow, NotYet, NoMemory}
 
 abbrev pub status_code : Status → ℕ
 status_code Done = 0
@@ -25,6 +27,7 @@ status_code (ReadFault role) = 3
 status_code WriteFault = 4
 status_code (SchemaRefused at kind) = 5
 status_code (DataRefused table at_record at_column kind) = 6
+status_code (QueryRefused at kind) = 7
 status_code (LimitReached what number) = 10
 status_code Overflow = 11
 status_code NoMemory = 12
@@ -60,6 +63,9 @@ abbrev pub schema_cause_name : SchemaCause → List ℕ
 schema_cause_name (cause.Text kind) = sql_kind_name kind
 schema_cause_name (cause.Catalog kind) = schema_kind_name kind
 
+abbrev pub query_cause_name : QueryCause → List ℕ
+query_cause_name (query_cause.Text kind) = sql_kind_name kind
+
 abbrev pub data_kind_name : DataKind → List ℕ
 data_kind_name loading.Header = codes "Header"
 data_kind_name loading.TooManyRows = codes "TooManyRows"
@@ -79,8 +85,15 @@ data_kind_number kind = []
 abbrev pub line_end : List ℕ
 line_end = codes "\n"
 
+-- a line that names a byte, and what is wrong there
+abbrev pub byte_line : List ℕ → ℕ → List ℕ → List ℕ
+byte_line start at name = concat (start ∷ decimal at ∷ codes ": " ∷ name ∷ line_end ∷ [])
+
 abbrev pub schema_line : ℕ → SchemaCause → List ℕ
-schema_line at kind = concat (codes "voodoo: schema: byte " ∷ decimal at ∷ codes ": " ∷ schema_cause_name kind ∷ line_end ∷ [])
+schema_line at kind = byte_line (codes "voodoo: schema: byte ") at (schema_cause_name kind)
+
+abbrev pub query_line : ℕ → QueryCause → List ℕ
+query_line at kind = byte_line (codes "voodoo: query: byte ") at (query_cause_name kind)
 
 abbrev pub data_line : ℕ → ℕ → ℕ → DataKind → List ℕ
 data_line table at_record at_column kind = concat (
@@ -101,6 +114,7 @@ status_line (ReadFault role) = codes "voodoo: cannot read " ++ role_name role ++
 status_line WriteFault = codes "voodoo: cannot write\n"
 status_line (SchemaRefused at kind) = schema_line at kind
 status_line (DataRefused table at_record at_column kind) = data_line table at_record at_column kind
+status_line (QueryRefused at kind) = query_line at kind
 status_line (LimitReached what number) = limit_line what number
 status_line Overflow = codes "voodoo: overflow\n"
 status_line (NotYet role) = codes "voodoo: not yet: " ++ role_name role ++ line_end

@@ -1,5 +1,5 @@
 -- The steps of a run, each a function of the files.
-use Rattle.std.specs.Prelude.{ℕ, ◌+◌, ◌&&◌, Bool, true, false, if◌then◌else◌, List, [], ◌∷◌, Option, Some, None, is_none, Result, Ok, Err}
+use Rattle.std.specs.Prelude.{ℕ, ◌+◌, ◌&&◌, Bool, true, false, if◌then◌else◌, List, [], ◌∷◌, is_none, Result, Ok, Err}
 use Rattle.std.specs.List.{list_any}
 use Rattle.control_vectors.specs.Slots.{Slot}
 use Rattle.control_vectors.specs.declared.Over.{Over}
@@ -11,7 +11,8 @@ use Rattle.sql_read.specs.declared.definition.TableDef.{TableDef}
 use Rattle.sql_read.specs.declared.refusal.SqlRefusal.{SqlRefusal}
 use Rattle.sql_read.specs.declared.refusal.SqlRefusal.TheVariants as text
 use Rattle.sql_read.specs.SchemaText.{schema_of}
-use Rattle.sql_read.specs.Thin.{query_of}
+use Rattle.query_read.specs.declared.tree.Query.{Query}
+use Rattle.query_read.specs.QueryText.{query_of}
 use Rattle.sql_types.specs.declared.refusal.SchemaRefusal.{SchemaRefusal}
 use Rattle.sql_types.specs.declared.refusal.SchemaRefusal.TheVariants as catalog
 use Rattle.sql_types.specs.Catalog.{catalog_of, is_table_named, is_column_named}
@@ -27,8 +28,9 @@ use Rattle.voodoo_text.specs.Reading.{program_of}
 use Rattle.voodoo_cmd.specs.declared.status.UsageKind.TheVariants as usage
 use Rattle.voodoo_cmd.specs.declared.status.FileRole.TheVariants.{Schema, Table, Text}
 use Rattle.voodoo_cmd.specs.declared.status.SchemaCause.TheVariants as cause
-use Rattle.voodoo_cmd.specs.declared.status.Status.TheVariants.{Usage, SchemaRefused, DataRefused, NotYet, Overflow, NoMemory}
-use Rattle.voodoo_cmd.specs.Inputs.{file_in}
+use Rattle.voodoo_cmd.specs.declared.status.QueryCause.TheVariants as query_cause
+use Rattle.voodoo_cmd.specs.declared.status.Status.TheVariants.{Usage, SchemaRefused, DataRefused, QueryRefused, NotYet, Overflow, NoMemory}
+use Rattle.voodoo_cmd.specs.Inputs.{file_in, past_limit}
 use Rattle.voodoo_cmd.specs.Outcomes.{Outcome, or_refuse, ◌>>=◌}
 use Rattle.voodoo_cmd.specs.Paths.{table_file}
 use Rattle.voodoo_cmd.specs.Words.{Request, request_of}
@@ -50,7 +52,7 @@ catalog_outcome (Err (catalog.Bad at kind)) = Err (SchemaRefused at (cause.Catal
 
 abbrev pub catalog_in : FileMap → List ℕ → Outcome (List TableDef)
 catalog_in files name = do
-  bytes ← file_in files Schema name
+  bytes ← file_in files Schema (past_limit Schema) name
   defs ← text_outcome (schema_of bytes)
   catalog_outcome (catalog_of defs)
 
@@ -61,7 +63,7 @@ table_outcome k (Err loading.NoMemory) = Err NoMemory
 table_outcome k (Err (loading.Bad at_record at_column kind)) = Err (DataRefused k at_record at_column kind)
 
 abbrev pub table_in : FileMap → List ℕ → ℕ → TableDef → Outcome TableValue
-table_in files schema k def = file_in files (Table k) (table_file schema def.name) >>= λ bytes. table_outcome k (table_of def bytes)
+table_in files schema k def = file_in files (Table k) (past_limit (Table k)) (table_file schema def.name) >>= λ bytes. table_outcome k (table_of def bytes)
 
 -- the tables of some definitions, of which the first has this number, in the schema's order
 unfoldable pub tables_from : FileMap → List ℕ → ℕ → List TableDef → Outcome (List TableValue)
@@ -78,7 +80,16 @@ database_in files schema = do
   ts ← tables_from files schema 1 defs
   Ok (database_of defs ts)
 
--- ---- a query asks for the sum of a column of whole numbers
+-- ---- the query's file gives its tree, or the first refusal of its text
+abbrev pub query_outcome : Result Query SqlRefusal → Outcome Query
+query_outcome (Ok q) = Ok q
+query_outcome (Err text.NoMemory) = Err NoMemory
+query_outcome (Err (text.Bad at kind)) = Err (QueryRefused at (query_cause.Text kind))
+
+abbrev pub query_in : FileMap → List ℕ → Outcome Query
+query_in files name = file_in files Text (past_limit Text) name >>= λ bytes. query_outcome (query_of bytes)
+
+-- ---- the columns of whole numbers
 abbrev pub is_integer : ColumnKind → Bool
 is_integer kind.Integer = true
 is_integer kind = false
@@ -101,13 +112,6 @@ has_integer_column defs names = list_any (λ t. is_table_named names.0 t && has_
 abbrev pub column_slots : DatabaseValue → Names → List Slot
 column_slots db names = slots_of (known (tables db.store names.0)).attributes (46 ∷ names.1)
 
-abbrev pub asked_column : DatabaseValue → Option Names → Option (List Slot)
-asked_column db None = None
-asked_column db (Some names) = if has_integer_column db.defs names then Some (column_slots db names) else None
-
-abbrev pub query_in : FileMap → List ℕ → DatabaseValue → Outcome (List Slot)
-query_in files name db = file_in files Text name >>= λ bytes. or_refuse (NotYet Text) (asked_column db (query_of bytes))
-
 -- ---- a program in its canonical text, which its check takes and whose vectors are no longer than 2^22 places
 abbrev pub has_no_limit : Result (List Outline) Fault → Bool
 has_no_limit (Ok shape) = is_none (limit_of shape)
@@ -121,7 +125,7 @@ runnable store program = if can_run store program then Ok program else Err (NotY
 
 abbrev pub program_in : FileMap → List ℕ → DatabaseValue → Outcome (List Statement)
 program_in files name db = do
-  bytes ← file_in files Text name
+  bytes ← file_in files Text (NotYet Text) name
   program ← or_refuse (NotYet Text) (program_of bytes)
   runnable (tables db.store) program
 

@@ -2,7 +2,7 @@
 
 ghost use Rattle.std.specs.Prelude.{◌≡◌, ◌≤◌, IfErr, IfOk, IfSome, vec_len};
 ghost use Rattle.voodoo_cmd.specs.Inputs as spec;
-ghost use Rattle.voodoo_cmd.specs.Inputs.{file_in, HasFileCause};
+ghost use Rattle.voodoo_cmd.specs.Inputs.{file_in, HasFileCause, IsPast};
 ghost use Rattle.voodoo_cmd.specs.Outcomes.{Meets};
 
 use crate::status::{FileRole, LimitWhat, Status};
@@ -19,36 +19,35 @@ fn file_limit(role: FileRole) -> u32
     }
 }
 
-/// The bytes of a file in its role.
+/// The bytes of a file in its role, or `past` where it is too long.
 pub(crate) fn read_file<S: Shelf>(
     alloc: Global,
     shelf: &mut S,
     role: FileRole,
+    past: Status,
     name: &str,
 ) -> Result<Vec<u8>, Status>
+    requires past { IsPast role past }
     ensures same_files { S.holds shelf.new ≡ S.holds shelf.old }
     ensures later { S.faults shelf.old ≤ S.faults shelf.new }
-    ensures bytes { IfSome (S.holds shelf.old) (λ files. Meets (λ v. v.items) result (file_in files role name.now)) }
+    ensures bytes { IfSome (S.holds shelf.old) (λ files. Meets (λ v. v.items) result (file_in files role past name.now)) }
     ensures short { IfOk result (λ v. vec_len v ≤ spec.file_limit role) }
     ensures cause { IfErr result (HasFileCause (S.holds shelf.old) role name.now (S.faults shelf.old) (S.faults shelf.new)) }
 {
     match read_all(alloc, shelf, name, file_limit(role)) {
         Ok(bytes) => Ok(bytes),
         Err(ReadRefusal::ReadFault) => Err(Status::ReadFault(role)),
-        Err(ReadRefusal::TooLong) => Err(past_limit(role)),
+        Err(ReadRefusal::TooLong) => Err(past),
         Err(ReadRefusal::NoMemory) => Err(Status::NoMemory),
     }
 }
 
 /// How a run ends where the file of that role is too long.
-fn past_limit(role: FileRole) -> Status
+pub(crate) fn past_limit(role: FileRole) -> Status
     ensures { result ≡ spec.past_limit role }
 {
-    match role {
-        FileRole::Text => Status::NotYet(role),
-        FileRole::Schema | FileRole::Table(_) => Status::LimitReached {
-            what: LimitWhat::File(role),
-            number: u64::from(file_limit(role)) + 1,
-        },
+    Status::LimitReached {
+        what: LimitWhat::File(role),
+        number: u64::from(file_limit(role)) + 1,
     }
 }

@@ -1,6 +1,7 @@
 //! The top call: from the words of the command line, a shelf of files and two sinks to a status.
 #![tactic(auto)]
 
+mod asked;
 mod inputs;
 mod line;
 mod paths;
@@ -12,7 +13,7 @@ mod tables_step;
 mod top;
 mod words;
 
-pub use status::{FileRole, LimitWhat, SchemaCause, Status, UsageKind};
+pub use status::{FileRole, LimitWhat, QueryCause, SchemaCause, Status, UsageKind};
 pub use top::run;
 
 #[cfg(test)]

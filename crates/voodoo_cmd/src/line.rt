@@ -4,9 +4,9 @@ ghost use Rattle.std.specs.Prelude.{◌≡◌, ◌++◌, OnOk, OnErr};
 ghost use Rattle.std.specs.Io.KnownBytes.{Appends};
 ghost use Rattle.io_edge.specs.Faults.{HasCause};
 ghost use Rattle.io_edge.specs.Sinks.{AppendsPrefix};
-ghost use Rattle.voodoo_cmd.specs.Statuses.{status_line, role_name, schema_line, data_line, file_limit_line, line_end, schema_cause_name, schema_kind_name, sql_kind_name, data_kind_name, data_kind_number};
+ghost use Rattle.voodoo_cmd.specs.Statuses.{status_line, role_name, byte_line, data_line, file_limit_line, line_end, schema_cause_name, query_cause_name, schema_kind_name, sql_kind_name, data_kind_name, data_kind_number};
 
-use crate::status::{FileRole, LimitWhat, SchemaCause, Status, UsageKind};
+use crate::status::{FileRole, LimitWhat, QueryCause, SchemaCause, Status, UsageKind};
 use io_edge::{Failed, Sink, write_all, write_pieces};
 use itoa::Buffer;
 use sql_read::SqlKind;
@@ -25,13 +25,21 @@ pub(crate) fn write_line<E: Sink>(err: &mut E, status: &Status) -> Result<(), Fa
         Status::Usage(UsageKind::Words) => write_all(err, b"voodoo: usage: Words\n"),
         Status::ReadFault(role) => write_role_line(err, b"voodoo: cannot read ", role),
         Status::WriteFault => write_all(err, b"voodoo: cannot write\n"),
-        Status::SchemaRefused { at, kind } => write_schema_line(err, *at, kind),
+        Status::SchemaRefused { at, kind } => write_byte_line(
+            err,
+            b"voodoo: schema: byte ",
+            *at,
+            schema_cause_name(kind),
+        ),
         Status::DataRefused {
             table,
             at_record,
             at_column,
             kind,
         } => write_data_line(err, *table, *at_record, *at_column, kind),
+        Status::QueryRefused { at, kind } => {
+            write_byte_line(err, b"voodoo: query: byte ", *at, query_cause_name(kind))
+        }
         Status::LimitReached {
             what: LimitWhat::File(role),
             number,
@@ -59,16 +67,15 @@ fn write_role_line<E: Sink>(err: &mut E, start: &[u8], role: &FileRole) -> Resul
     }
 }
 
-/// Writes the line of a schema that is refused at a byte.
-fn write_schema_line<E: Sink>(err: &mut E, at: u32, kind: &SchemaCause) -> Result<(), Failed>
-    ensures whole { OnOk result (Appends (E.written err.old) (E.written err.new) (schema_line at kind.now)) }
-    ensures prefix { OnErr result (AppendsPrefix (E.written err.old) (E.written err.new) (schema_line at kind.now)) }
+/// Writes the line of a text that is refused at a byte.
+fn write_byte_line<E: Sink>(err: &mut E, start: &[u8], at: u32, name: &str) -> Result<(), Failed>
+    ensures whole { OnOk result (Appends (E.written err.old) (E.written err.new) (byte_line start.now at name.now)) }
+    ensures prefix { OnErr result (AppendsPrefix (E.written err.old) (E.written err.new) (byte_line start.now at name.now)) }
     ensures cause { HasCause (E.faults err.old) (E.faults err.new) result }
 {
     let mut digits = Buffer::new();
     let byte = digits.format(at).as_bytes();
-    let name = schema_cause_name(kind).as_bytes();
-    write_pieces(err, &[b"voodoo: schema: byte ", byte, b": ", name, b"\n"])
+    write_pieces(err, &[start, byte, b": ", name.as_bytes(), b"\n"])
 }
 
 /// Writes the line of a table that is refused at a record and a column.
@@ -168,6 +175,14 @@ fn schema_cause_name(cause: &SchemaCause) -> &'static str
         SchemaCause::Text(kind) => sql_kind_name(*kind),
         SchemaCause::Catalog(kind) => schema_kind_name(*kind),
     }
+}
+
+/// The name of a query's cause, as it is printed.
+fn query_cause_name(cause: &QueryCause) -> &'static str
+    ensures { result.now ≡ query_cause_name cause.now }
+{
+    let QueryCause::Text(kind) = cause;
+    sql_kind_name(*kind)
 }
 
 fn sql_kind_name(kind: SqlKind) -> &'static str

@@ -38,7 +38,8 @@ pub(crate) fn read_runnable<S: Shelf>(
     ensures short { IfOk result (λ r. limit_of r.shape ≡ None) }
     ensures cause { IfErr result (HasFileCause (S.holds shelf.old) FileRole.Text file.now (S.faults shelf.old) (S.faults shelf.new)) }
 {
-    let bytes = read_file(alloc, shelf, FileRole::Text, file)?;
+    let past = Status::NotYet(FileRole::Text);
+    let bytes = read_file(alloc, shelf, FileRole::Text, past, file)?;
     match read_program(alloc, bytes.as_slice())? {
         Some(program) => checked(alloc, program, db.store()),
         None => Err(Status::NotYet(FileRole::Text)),

@@ -1,52 +1,101 @@
 //! The step that reads the query, and its answer.
 
-ghost use Rattle.std.specs.Prelude.{◌≡◌, ◌≤◌, ◌++◌, ◌∷◌, [], IfErr, IfOk, IfSome, OnOk, codes};
+ghost use Rattle.std.specs.Prelude.{◌≡◌, ◌≤◌, ◌<◌, ◌^◌, ◌++◌, ◌∷◌, [], IfErr, IfOk, IfSome, OnOk, length};
 ghost use Rattle.std.specs.Option.{option_copied};
 ghost use Rattle.control_vectors.specs.Slots.{numbers};
+ghost use Rattle.query_read.specs.QueryText.{query_of};
 ghost use Rattle.csv.specs.Writing.{default_writer, row_text};
 ghost use Rattle.voodoo_ops.specs.Sums.{total_slot};
 ghost use Rattle.voodoo_cmd.specs.Expected as expected;
-ghost use Rattle.voodoo_cmd.specs.Inputs.{HasFileCause};
+ghost use Rattle.voodoo_cmd.specs.Inputs.{HasFileCause, IsQueryRefusal, IsTextRefusal};
 ghost use Rattle.voodoo_cmd.specs.Narrow.{IsNarrowIfAny, IsNarrowStore, slots_seen};
 ghost use Rattle.voodoo_cmd.specs.Outcomes.{Meets};
 ghost use Rattle.voodoo_cmd.specs.Steps as spec;
 
-use crate::inputs::read_file;
-use crate::status::{FileRole, Status};
+use crate::asked::sum_asked;
+use crate::inputs::{past_limit, read_file};
+use crate::status::{FileRole, QueryCause, Status};
 use csv::ByteRecord;
 use io_edge::{Name, NoMemory, Shelf};
 use itoa::Buffer;
+use query_read::{Query, read_query};
 use row_print::RowText;
-use sql_read::{ColumnDef, ColumnKind, TableDef, thin_query};
+use sql_read::{ColumnDef, ColumnKind, SqlRefusal, TableDef};
 use std::alloc::{AllocError, Global};
 use struct_vectors::Column;
 use table_load::Database;
 use voodoo_ops::sums::column_total;
 use voodoo_ops::{RunRefusal, Slot};
 
-/// The column of whole numbers that the query asks the sum of. A column that is not kept has no
-/// slots.
-pub(crate) fn read_column<'a, S: Shelf>(
+/// The answer to the query.
+pub(crate) fn query_answer<S: Shelf>(
     alloc: Global,
     shelf: &mut S,
     file: &str,
-    db: &'a Database,
-) -> Result<Option<&'a Column>, Status>
+    db: &Database,
+) -> Result<Vec<u8>, Status>
     requires narrow { IsNarrowStore db.now.store }
     ensures same_files { S.holds shelf.new ≡ S.holds shelf.old }
     ensures later { S.faults shelf.old ≤ S.faults shelf.new }
-    ensures column { IfSome (S.holds shelf.old) (λ files. Meets slots_seen result (spec.query_in files file.now db.now)) }
-    ensures narrow { IfOk result IsNarrowIfAny }
+    ensures text { IfSome (S.holds shelf.old) (λ files. Meets (λ v. v.items) result (expected.query_answer files file.now db.now)) }
     ensures cause { IfErr result (HasFileCause (S.holds shelf.old) FileRole.Text file.now (S.faults shelf.old) (S.faults shelf.new)) }
 {
-    let bytes = read_file(alloc, shelf, FileRole::Text, file)?;
-    let Some(names) = thin_query(alloc, bytes.as_slice())? else {
+    let query = read_query_file(alloc, shelf, file)?;
+    answered(alloc, query, db)
+}
+
+/// The query.
+fn read_query_file<S: Shelf>(alloc: Global, shelf: &mut S, file: &str) -> Result<Query, Status>
+    ensures same_files { S.holds shelf.new ≡ S.holds shelf.old }
+    ensures later { S.faults shelf.old ≤ S.faults shelf.new }
+    ensures query { IfSome (S.holds shelf.old) (λ files. Meets (λ q. q) result (spec.query_in files file.now)) }
+    ensures cause { IfErr result (HasFileCause (S.holds shelf.old) FileRole.Text file.now (S.faults shelf.old) (S.faults shelf.new)) }
+{
+    let past = past_limit(FileRole::Text);
+    let bytes = read_file(alloc, shelf, FileRole::Text, past, file)?;
+    query_of(alloc, bytes.as_slice())
+}
+
+/// The query of a text.
+fn query_of(alloc: Global, bytes: &[u8]) -> Result<Query, Status>
+    requires { length bytes.now < 2 ^ 32 }
+    ensures query { Meets (λ q. q) result (spec.query_outcome (query_of bytes.now)) }
+    ensures kind { IfErr result IsQueryRefusal }
+{
+    match read_query(alloc, bytes) {
+        Ok(query) => Ok(query),
+        Err(SqlRefusal::NoMemory) => Err(Status::NoMemory),
+        Err(SqlRefusal::Bad { at, kind }) => Err(Status::QueryRefused {
+            at,
+            kind: QueryCause::Text(kind),
+        }),
+    }
+}
+
+/// The answer to a query, which is let go.
+fn answered(alloc: Global, query: Query, db: &Database) -> Result<Vec<u8>, Status>
+    requires narrow { IsNarrowStore db.now.store }
+    ensures text { Meets (λ v. v.items) result (expected.query_text db.now query) }
+    ensures kind { IfErr result IsTextRefusal }
+{
+    query_text(alloc, &query, db)
+}
+
+/// The answer to a query, where it asks for the sum of a column of whole numbers. A column that is
+/// not kept has no slots.
+fn query_text(alloc: Global, query: &Query, db: &Database) -> Result<Vec<u8>, Status>
+    requires narrow { IsNarrowStore db.now.store }
+    ensures text { Meets (λ v. v.items) result (expected.query_text db.now query.now) }
+    ensures kind { IfErr result IsTextRefusal }
+{
+    let Some(asked) = sum_asked(query) else {
         return Err(Status::NotYet(FileRole::Text));
     };
-    if !has_integer_column(db.defs(), names.0.text(), names.1.text()) {
+    if !has_integer_column(db.defs(), asked.table.text(), asked.column.text()) {
         return Err(Status::NotYet(FileRole::Text));
     }
-    Ok(kept_column(alloc, db, &names.0, names.1.text())?)
+    let column = kept_column(alloc, db, asked.table, asked.column.text())?;
+    Ok(sum_text(alloc, asked.header, column)?)
 }
 
 /// Whether some table of the schema has that name, and a column of whole numbers of that name.
@@ -85,13 +134,13 @@ fn kept_column<'a>(
 }
 
 /// The rows of a sum: the header, and the exact total, each on a line.
-pub(crate) fn sum_text(alloc: Global, column: Option<&Column>) -> Result<Vec<u8>, NoMemory>
+fn sum_text(alloc: Global, header: &str, column: Option<&Column>) -> Result<Vec<u8>, NoMemory>
     requires narrow { IsNarrowIfAny column }
-    ensures { IfOk result (λ text. text.items ≡ expected.sum_text (slots_seen column.entry)) }
+    ensures { IfOk result (λ text. text.items ≡ expected.sum_text header.now (slots_seen column.entry)) }
 {
     let total = total_of(alloc, column)?;
     let mut text = RowText::new(alloc);
-    push_row(alloc, &mut text, b"c1")?;
+    push_row(alloc, &mut text, header.as_bytes())?;
     match total {
         None => push_row(alloc, &mut text, b"")?,
         Some(x) => push_row(alloc, &mut text, Buffer::new().format(x).as_bytes())?,

@@ -32,6 +32,12 @@ pub enum SchemaCause {
     Catalog(SchemaKind),
 }
 
+/// Why a query is refused: by its text.
+#[derive(Clone, Copy, Debug, PartialEq, Eq)]
+pub enum QueryCause {
+    Text(SqlKind),
+}
+
 /// What a limit is on.
 #[derive(Clone, Copy, Debug, PartialEq, Eq)]
 pub enum LimitWhat {
@@ -63,6 +69,11 @@ pub enum Status {
         at_column: u32,
         kind: DataKind,
     },
+    /// The query is refused at a byte of its text, counted from 0.
+    QueryRefused {
+        at: u32,
+        kind: QueryCause,
+    },
     /// A limit is passed. The number is the limit plus one.
     LimitReached {
         what: LimitWhat,
@@ -88,6 +99,7 @@ impl Status {
             Status::WriteFault => 4,
             Status::SchemaRefused { .. } => 5,
             Status::DataRefused { .. } => 6,
+            Status::QueryRefused { .. } => 7,
             Status::LimitReached { .. } => 10,
             Status::Overflow => 11,
             Status::NoMemory => 12,

@@ -10,7 +10,7 @@ ghost use Rattle.voodoo_cmd.specs.Paths as paths;
 ghost use Rattle.voodoo_cmd.specs.Reads.{HasTablesCause};
 ghost use Rattle.voodoo_cmd.specs.Steps.{table_in, table_outcome, tables_from};
 
-use crate::inputs::read_file;
+use crate::inputs::{past_limit, read_file};
 use crate::paths::table_file;
 use crate::status::{FileRole, Status};
 use io_edge::{NoMemory, Shelf};
@@ -66,7 +66,8 @@ fn read_table<S: Shelf>(
     ensures cause { IfErr result (HasFileCause (S.holds shelf.old) (FileRole.Table number) (paths.table_file schema.now def.now.name) (S.faults shelf.old) (S.faults shelf.new)) }
 {
     let file = table_file(alloc, schema, def.name.text())?;
-    let bytes = read_file(alloc, shelf, FileRole::Table(number), file.text())?;
+    let role = FileRole::Table(number);
+    let bytes = read_file(alloc, shelf, role, past_limit(role), file.text())?;
     loaded(alloc, number, def, bytes.as_slice())
 }
 

@@ -94,6 +94,60 @@ fn a_column_is_summed(rt: HostRuntime) -> Result<(), Fail> {
 }
 
 #[test]
+fn a_sum_is_asked_in_any_spelling(rt: HostRuntime) -> Result<(), Fail> {
+    let alloc = rt.alloc();
+    for (query, text) in [
+        ("select sum(a) as total from t x;", "total\n6\n"),
+        ("SELECT Sum ( x.A ) -- of all\nFROM T AS X", "c1\n6\n"),
+        ("SELECT SUM(t.a) s FROM t", "s\n6\n"),
+    ] {
+        let files = shelf_files(alloc, SCHEMA, "a\n1\n2\n3\n", query)?;
+        assert!(rt; gives(alloc, WORDS, files, 0, text, "")?, "{query}");
+    }
+    Ok(())
+}
+
+#[test]
+fn a_query_is_refused_at_a_byte(rt: HostRuntime) -> Result<(), Fail> {
+    let alloc = rt.alloc();
+    for (query, line) in [
+        (
+            "SELECT SUM(a FROM t",
+            "voodoo: query: byte 13: Unexpected\n",
+        ),
+        (
+            "SELECT SUM(a) FROM t WHERE a < DATE '1998-09-31'",
+            "voodoo: query: byte 36: DateRange\n",
+        ),
+    ] {
+        let files = shelf_files(alloc, SCHEMA, "a\n1\n", query)?;
+        assert!(rt; gives(alloc, WORDS, files, 7, "", line)?, "{query}");
+    }
+    Ok(())
+}
+
+#[test]
+fn any_other_query_is_not_yet_answered(rt: HostRuntime) -> Result<(), Fail> {
+    let alloc = rt.alloc();
+    for query in [
+        "SELECT SUM(a) FROM t WHERE a > 1",
+        "SELECT DISTINCT SUM(a) FROM t",
+        "SELECT SUM(a), SUM(a) FROM t",
+        "SELECT SUM(t.a) FROM t x",
+        "SELECT SUM(a) FROM t, t u",
+        "SELECT SUM(a) FROM t GROUP BY a",
+        "SELECT SUM(a) FROM t ORDER BY 1",
+        "SELECT MAX(a) FROM t",
+        "SELECT SUM(b) FROM t",
+    ] {
+        let files = shelf_files(alloc, SCHEMA, "a\n1\n", query)?;
+        let line = "voodoo: not yet: text\n";
+        assert!(rt; gives(alloc, WORDS, files, 13, "", line)?, "{query}");
+    }
+    Ok(())
+}
+
+#[test]
 fn the_first_refusal_is_the_answer(rt: HostRuntime) -> Result<(), Fail> {
     let alloc = rt.alloc();
     let one = "a\n1\n";
@@ -116,7 +170,13 @@ fn the_first_refusal_is_the_answer(rt: HostRuntime) -> Result<(), Fail> {
             6,
             "voodoo: table 1: record 2: column 1: NotInteger\n",
         ),
-        (SCHEMA, one, blanks.as_str(), 13, "voodoo: not yet: text\n"),
+        (
+            SCHEMA,
+            one,
+            blanks.as_str(),
+            10,
+            "voodoo: limit: text: 65537\n",
+        ),
         (
             SCHEMA,
             one,

@@ -16,7 +16,7 @@ ghost use Rattle.voodoo_cmd.specs.Words as words_spec;
 
 use crate::line::write_line;
 use crate::program_step::{read_runnable, results_of};
-use crate::query_step::{read_column, sum_text};
+use crate::query_step::query_answer;
 use crate::schema_step::read_catalog;
 use crate::status::{Status, UsageKind};
 use crate::tables_step::read_tables;
@@ -88,8 +88,8 @@ fn read_answer<S: Shelf>(alloc: Global, words: &[Name], shelf: &mut S) -> Result
     let db = read_database(alloc, shelf, request.schema)?;
     match request.mode {
         Mode::Sql => {
-            let column = read_column(alloc, shelf, request.text, &db)?;
-            Ok(Answer::Rows(sum_text(alloc, column)?))
+            let text = query_answer(alloc, shelf, request.text, &db)?;
+            Ok(Answer::Rows(text))
         }
         Mode::Algebra => {
             let runnable = read_runnable(alloc, shelf, request.text, &db)?;

@@ -39,3 +39,18 @@ returns-in-NoMemory-clause-prefix g c = rw c.in-NoMemory.is c.write_all-in-NoMem
 
 pub returns-in-Overflow-clause-prefix : goal.returns-in-Overflow-clause-prefix
 returns-in-Overflow-clause-prefix g c = rw c.in-Overflow.is c.write_all-in-Overflow.ensures.prefix
+
+pub returns-in-SchemaRefused-clause-whole : goal.returns-in-SchemaRefused-clause-whole
+returns-in-SchemaRefused-clause-whole g c = rw (c.in-SchemaRefused.is, ← c.schema_cause_name.ensures) c.write_byte_line.ensures.whole
+
+pub returns-in-SchemaRefused-clause-prefix : goal.returns-in-SchemaRefused-clause-prefix
+returns-in-SchemaRefused-clause-prefix g c = rw (c.in-SchemaRefused.is, ← c.schema_cause_name.ensures) c.write_byte_line.ensures.prefix
+
+pub returns-in-QueryRefused-clause-whole : goal.returns-in-QueryRefused-clause-whole
+returns-in-QueryRefused-clause-whole g c = rw (c.in-QueryRefused.is, ← c.query_cause_name.ensures) c.write_byte_line-in-QueryRefused.ensures.whole
+
+pub returns-in-QueryRefused-clause-prefix : goal.returns-in-QueryRefused-clause-prefix
+returns-in-QueryRefused-clause-prefix g c = rw (c.in-QueryRefused.is, ← c.query_cause_name.ensures) c.write_byte_line-in-QueryRefused.ensures.prefix
+
+pub returns-in-Overflow-clause-whole : goal.returns-in-Overflow-clause-whole
+returns-in-Overflow-clause-whole g c = rw c.in-Overflow.is c.write_all-in-Overflow.ensures.whole
