@@ -1,0 +1,3 @@
+-- What all orders add up to.
+select sum(o.total) AS Revenue
+from orders o;

@@ -1,0 +1,8 @@
+CREATE TABLE orders (
+  id INTEGER PRIMARY KEY,
+  customer VARCHAR(20) NOT NULL,
+  placed DATE NOT NULL,
+  total BIGINT NOT NULL
+);
+
+CREATE TABLE customers (name VARCHAR(20) PRIMARY KEY);
