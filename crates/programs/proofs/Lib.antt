@@ -1,0 +1,13 @@
+pub mod Places
+pub mod Merging
+pub mod Nesting
+pub mod ShapeLaws
+pub mod Marks
+pub mod CheckLemmas
+pub mod ReachLemmas
+pub mod Depths
+pub mod Beginnings
+pub mod Projections
+pub mod Seen
+pub mod CheckSteps
+pub mod Limits

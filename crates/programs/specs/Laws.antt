@@ -1,0 +1,51 @@
+-- The laws of checks and of reached statements: programs compose, and statements leave other names alone.
+use Rattle.std.specs.Prelude.{◌≡◌, ◌≤◌, ◌<◌, ◌^◌, ℕ, ◌++◌, List, [], ◌∷◌, All, true, false, Some, Ok}
+use Rattle.std.specs.Str.{bytes_eq}
+use Rattle.programs.specs.declared.op.Size.{Size}
+use Rattle.programs.specs.declared.op.Size.TheVariants.{Number, Of}
+use Rattle.programs.specs.declared.op.Op.{Op}
+use Rattle.programs.specs.declared.op.Op.TheVariants.{Range, Scatter}
+use Rattle.programs.specs.declared.op.Statement.{Statement}
+use Rattle.programs.specs.Mentions.{Label, has_name}
+use Rattle.programs.specs.Outlines.{Shapes, Outline, len_in}
+use Rattle.programs.specs.Check.{Known, then_check, check_from, check, limit_of}
+use Rattle.programs.specs.Reaching.{Reached, reached}
+
+-- no statement has this name
+abbrev pub Avoids : Label → List Statement → Type 0
+Avoids m [] = Unit {0}
+Avoids m (s ∷ rest) = (bytes_eq s.name m ≡ false) × Avoids m rest
+
+pub record CheckLaws : Type 0 where
+  pub composes : (tables : Shapes) (a b : List Statement) (known : Known) → check_from tables (a ++ b) known ≡ then_check (check_from tables a known) (check_from tables b)
+  pub frame : (tables : Shapes) (a : List Statement) (known after : Known) (m : Label) → Avoids m a → check_from tables a known ≡ Ok after → after.vectors m ≡ known.vectors m
+
+-- where these names are mentioned behind them, all of the statements are kept, and so are the names
+pub record Keeps (wanted : List Label) (a : List Statement) : Type 0 where
+  pub kept : (reached wanted a).kept ≡ a
+  pub names : (n : Label) → has_name wanted n ≡ true → has_name (reached wanted a).names n ≡ true
+
+-- the statements kept of two lists
+abbrev pub and_behind : Reached → List Statement → Reached
+and_behind r kept = record { names = r.names; kept = r.kept ++ kept }
+
+pub record ReachLaws : Type 0 where
+  -- what is kept of two lists of statements
+  pub composes : (wanted : List Label) (a b : List Statement) → reached wanted (a ++ b) ≡ and_behind (reached (reached wanted b).names a) (reached wanted b).kept
+  pub keeps : (wanted : List Label) (a b : List Statement) → Keeps wanted b → Keeps (reached wanted b).names a → Keeps wanted (a ++ b)
+  pub keeps_one : (wanted : List Label) (s : Statement) → has_name wanted s.name ≡ true → Keeps wanted (s ∷ [])
+
+-- ---- limits
+-- a size is a number of 32 bits, or the length of a vector
+abbrev pub SizeFits : Size → Type 0
+SizeFits (Number n) = n < 2 ^ 32
+SizeFits (Of a) = Unit {0}
+
+abbrev pub SizesFit : Op → Type 0
+SizesFit (Range size p control) = SizeFits size
+SizesFit (Scatter a size b pos) = SizeFits size
+SizesFit _ = Unit {0}
+
+-- the first length that passes the limit is exact: it is far from the number at which products are kept
+abbrev pub LimitLaw : Type 0
+LimitLaw = (tables : Shapes) (program : List Statement) (shape : List Outline) (k n : ℕ) → ((t : Label) → len_in tables t ≤ 2 ^ 22) → All (λ s. SizesFit s.op) program → check tables program ≡ Ok shape → limit_of shape ≡ Some (k, n) → n ≤ 2 ^ 44

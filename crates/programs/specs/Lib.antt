@@ -1,0 +1,14 @@
+pub mod Mentions
+pub mod Vectors
+pub mod Merges
+pub mod Orders
+pub mod Outlines
+pub mod Moves
+pub mod Made
+pub mod Faults
+pub mod Check
+pub mod Reaching
+pub mod Indexes
+pub mod Parts
+pub mod Refusals
+pub mod Laws
