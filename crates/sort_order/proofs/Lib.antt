@@ -1,0 +1,6 @@
+pub mod Counts
+pub mod BucketLaws
+pub mod StableSorts
+pub mod KeyOrders
+pub mod CellLaws
+pub mod PairLaws

@@ -1,0 +1,5 @@
+pub mod Keys
+pub mod Orders
+pub mod Buckets
+pub mod Pairs
+pub mod Answers
