@@ -1,0 +1,5 @@
+pub mod Typers
+pub mod Aggregates
+pub mod Lists
+pub mod Narrow
+pub mod Parts

@@ -1,0 +1,10 @@
+pub mod Kinds
+pub mod Outcomes
+pub mod Names
+pub mod Expressions
+pub mod Sources
+pub mod Grouping
+pub mod Items
+pub mod Ordering
+pub mod Conjuncts
+pub mod Typing

@@ -1,0 +1,276 @@
+//! Each form of an expression, over its typed operands.
+
+ghost use Rattle.std.specs.Prelude.{◌≡◌, ◌≤◌, length};
+ghost use Rattle.std.specs.List.{list_all};
+ghost use Rattle.query_types.specs.Expressions as spec;
+ghost use Rattle.query_types.specs.Names.{IsNarrow, seen};
+ghost use Rattle.query_types.specs.Outcomes.{Gives, Collects};
+
+use crate::kinds::{
+    Kind, Role, compare, family_of, folds, is_number, is_truth, kind_of, makes, takes,
+};
+use crate::names::column;
+use crate::outcome::refusal;
+use crate::refusal::{TypeKind, TypeRefusal};
+use crate::scope::{Level, Scope};
+use crate::typed::{Aggregate, AggregateKind, TypedExpr};
+use crate::typing::Typed;
+use query_read::{AggregateKind as Written, BinaryOp, ColumnName, Divisor, Polarity, Sign};
+use sql_read::Listing;
+use sqlite_items::{Boxed, Items};
+use std::alloc::Global;
+
+fn copied(alloc: Global, text: &[u8]) -> Result<Listing<u8>, TypeRefusal>
+    ensures { Gives (Ok text.now) result }
+{
+    Ok(Listing::from_vec(Vec::from_slice(alloc, text)?))
+}
+
+/// A text literal, which stands only as a side.
+pub fn literal(alloc: Global, role: Role, text: &[u8], at: u32) -> Result<Typed, TypeRefusal>
+    ensures { Gives (spec.literal role text.now at) result }
+{
+    match role {
+        Role::Side => {
+            let text = copied(alloc, text)?;
+            Ok(Typed {
+                value: TypedExpr::Text(text),
+                kind: Kind::Text,
+            })
+        }
+        Role::Alone => Err(refusal(TypeKind::TypesDiffer, at)),
+    }
+}
+
+#[tactic(auto, unfolding(crate::specs::Expressions::named))]
+pub fn named(scope: &Scope<'_>, c: &ColumnName) -> Result<Typed, TypeRefusal>
+    requires narrow { IsNarrow scope.now.defs.now }
+    requires few { length scope.now.tables.now ≤ 8 }
+    ensures { Gives (spec.named (seen scope.now) c.now) result }
+{
+    let found = column(scope, c)?;
+    Ok(Typed {
+        value: TypedExpr::Column(found.column, found.kind),
+        kind: kind_of(found.kind),
+    })
+}
+
+#[tactic(auto, unfolding(crate::specs::Expressions::signed))]
+pub fn signed(alloc: Global, sign: Sign, at: u32, a: Typed) -> Result<Typed, TypeRefusal>
+    ensures { Gives (spec.signed sign at a) result }
+{
+    if !is_number(a.kind) {
+        return Err(refusal(TypeKind::TypesDiffer, at));
+    }
+    Ok(Typed {
+        value: TypedExpr::Signed(sign, Boxed::new(alloc, a.value)?),
+        kind: Kind::Number,
+    })
+}
+
+#[tactic(auto, unfolding(crate::specs::Expressions::negated))]
+pub fn negated(alloc: Global, at: u32, a: Typed) -> Result<Typed, TypeRefusal>
+    ensures { Gives (spec.negated at a) result }
+{
+    if !is_truth(a.kind) {
+        return Err(refusal(TypeKind::TypesDiffer, at));
+    }
+    Ok(Typed {
+        value: TypedExpr::Not(Boxed::new(alloc, a.value)?),
+        kind: Kind::Truth,
+    })
+}
+
+#[tactic(auto, unfolding(crate::specs::Expressions::joined))]
+pub fn joined(
+    alloc: Global,
+    op: BinaryOp,
+    at: u32,
+    a: Typed,
+    b: Typed,
+) -> Result<Typed, TypeRefusal>
+    ensures { Gives (spec.joined op at a b) result }
+{
+    let family = family_of(op);
+    if !takes(family, a.kind, b.kind) {
+        return Err(refusal(TypeKind::TypesDiffer, at));
+    }
+    let left = Boxed::new(alloc, a.value)?;
+    let right = Boxed::new(alloc, b.value)?;
+    Ok(Typed {
+        value: TypedExpr::Binary(op, left, right),
+        kind: makes(family),
+    })
+}
+
+fn sign_or_plus(sign: Option<Sign>) -> Sign
+    ensures { result ≡ spec.sign_or_plus sign }
+{
+    match sign {
+        Some(s) => s,
+        None => Sign::Plus,
+    }
+}
+
+#[tactic(auto, unfolding(crate::specs::Expressions::divided))]
+pub fn divided(alloc: Global, at: u32, a: Typed, by: Divisor) -> Result<Typed, TypeRefusal>
+    ensures { Gives (spec.divided at a by) result }
+{
+    if by.value == 0 {
+        return Err(refusal(TypeKind::ZeroDivisor, by.value_at));
+    }
+    if !is_number(a.kind) {
+        return Err(refusal(TypeKind::TypesDiffer, at));
+    }
+    let of = Boxed::new(alloc, a.value)?;
+    Ok(Typed {
+        value: TypedExpr::Divide(of, sign_or_plus(by.sign), by.value),
+        kind: Kind::Number,
+    })
+}
+
+#[tactic(auto, unfolding(crate::specs::Expressions::between))]
+pub fn between(
+    alloc: Global,
+    polarity: Polarity,
+    at: u32,
+    a: Typed,
+    low: Typed,
+    high: Typed,
+) -> Result<Typed, TypeRefusal>
+    ensures { Gives (spec.between polarity at a low high) result }
+{
+    if !(compare(a.kind, low.kind) && compare(a.kind, high.kind)) {
+        return Err(refusal(TypeKind::TypesDiffer, at));
+    }
+    let of = Boxed::new(alloc, a.value)?;
+    let low = Boxed::new(alloc, low.value)?;
+    let high = Boxed::new(alloc, high.value)?;
+    Ok(Typed {
+        value: TypedExpr::Between(polarity, of, low, high),
+        kind: Kind::Truth,
+    })
+}
+
+fn all_compare(kind: Kind, ts: &[Typed]) -> bool
+    ensures { result ≡ list_all (spec.compares_with kind) ts.now }
+{
+    ts.iter().all(|t| compare(kind, t.kind))
+}
+
+fn values(alloc: Global, ts: Listing<Typed>) -> Result<Items<TypedExpr>, TypeRefusal>
+    ensures { Gives (Ok (spec.values ts)) result }
+{
+    let mut values = Items::new(alloc);
+    for t in ts.into_vec() {
+        values.push(t.value)?;
+    }
+    Ok(values)
+}
+
+#[tactic(auto, unfolding(crate::specs::Expressions::among))]
+pub fn among(
+    alloc: Global,
+    polarity: Polarity,
+    at: u32,
+    a: Typed,
+    ts: Listing<Typed>,
+) -> Result<Typed, TypeRefusal>
+    ensures { Gives (spec.among polarity at a ts) result }
+{
+    if !all_compare(a.kind, ts.as_slice()) {
+        return Err(refusal(TypeKind::TypesDiffer, at));
+    }
+    let of = Boxed::new(alloc, a.value)?;
+    let values = values(alloc, ts)?;
+    Ok(Typed {
+        value: TypedExpr::In(polarity, of, values),
+        kind: Kind::Truth,
+    })
+}
+
+fn aggregate_kind(of: Written) -> AggregateKind
+    ensures { result ≡ spec.aggregate_kind of }
+{
+    match of {
+        Written::Sum => AggregateKind::Sum,
+        Written::Min => AggregateKind::Min,
+        Written::Max => AggregateKind::Max,
+        Written::Avg => AggregateKind::Avg,
+    }
+}
+
+fn kind_folded(of: Written, a: Kind) -> Kind
+    ensures { result ≡ spec.kind_folded of a }
+{
+    match of {
+        Written::Sum | Written::Avg => Kind::Number,
+        _ => a,
+    }
+}
+
+fn is_row(level: Level) -> bool
+    ensures { result ≡ spec.is_row level }
+{
+    match level {
+        Level::Row => true,
+        Level::Group => false,
+    }
+}
+
+/// One more aggregate. A list of 2^32 has no room for it.
+fn met(aggregates: &mut Listing<Aggregate>, kind: Kind, a: Aggregate) -> Result<Typed, TypeRefusal>
+    ensures { Collects (spec.met kind a aggregates.old) result aggregates.new }
+{
+    let place = aggregates.len();
+    if place >= 4294967296 {
+        return Err(TypeRefusal::NoMemory);
+    }
+    aggregates.push(a)?;
+    Ok(Typed {
+        value: TypedExpr::Aggregate(place as u32),
+        kind,
+    })
+}
+
+#[tactic(auto, unfolding(crate::specs::Expressions::counted))]
+pub fn counted(
+    aggregates: &mut Listing<Aggregate>,
+    level: Level,
+    at: u32,
+) -> Result<Typed, TypeRefusal>
+    ensures { Collects (spec.counted level at aggregates.old) result aggregates.new }
+{
+    if is_row(level) {
+        return Err(refusal(TypeKind::NestedAggregate, at));
+    }
+    let counting = Aggregate {
+        kind: AggregateKind::Count,
+        argument: None,
+    };
+    met(aggregates, Kind::Number, counting)
+}
+
+#[tactic(auto, unfolding(crate::specs::Expressions::folded))]
+pub fn folded(
+    aggregates: &mut Listing<Aggregate>,
+    level: Level,
+    of: Written,
+    at: u32,
+    a: Typed,
+) -> Result<Typed, TypeRefusal>
+    ensures { Collects (spec.folded level of at a aggregates.old) result aggregates.new }
+{
+    if !folds(of, a.kind) {
+        return Err(refusal(TypeKind::TypesDiffer, at));
+    }
+    if is_row(level) {
+        return Err(refusal(TypeKind::NestedAggregate, at));
+    }
+    let kind = kind_folded(of, a.kind);
+    let folding = Aggregate {
+        kind: aggregate_kind(of),
+        argument: Some(a.value),
+    };
+    met(aggregates, kind, folding)
+}

@@ -1,0 +1,29 @@
+//! Queries, typed: what each name, operator and clause of a query means over the tables of a catalog.
+#![tactic(auto)]
+
+mod conjuncts;
+mod expr;
+mod forms;
+mod groups;
+mod items;
+mod kinds;
+mod names;
+mod ordering;
+mod outcome;
+mod query;
+mod refusal;
+mod scope;
+mod sources;
+mod stars;
+mod typed;
+mod typing;
+
+pub use kinds::Kind;
+pub use query::type_query;
+pub use refusal::{TypeKind, TypeRefusal};
+pub use typed::{
+    Aggregate, AggregateKind, ColumnRef, KeyRef, OrderKey, PlanSource, TypedExpr, TypedQuery,
+};
+
+#[cfg(test)]
+mod tests;
