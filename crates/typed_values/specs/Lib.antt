@@ -1,0 +1,4 @@
+pub mod Intervals
+pub mod Bounds
+pub mod Sums
+pub mod Values

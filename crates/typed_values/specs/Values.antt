@@ -1,0 +1,172 @@
+-- The value of an expression on a row or on a group. After SQL-92 (ISO/IEC 9075:1992), 6.12 <numeric value expression>, 8.2 to 8.4 and 8.12 <search condition>,
+-- but for arithmetic, which is exact, and Over where it leaves 128 bits.
+use Rattle.std.specs.Prelude.{ℕ, ℤ, pos, int_lt, int_div, Bool, true, false, not, ◌&&◌, ◌||◌, if◌then◌else◌, List, [], ◌∷◌, nat_lt, Option, Some, None, Result, Ok, Err}
+use Rattle.control_vectors.specs.declared.Over.{Over}
+use Rattle.control_vectors.specs.Slots.{over, in_128_bits}
+use Rattle.query_read.specs.declared.tree.BinaryOp.{BinaryOp}
+use Rattle.query_read.specs.declared.tree.BinaryOp.TheVariants as op
+use Rattle.query_read.specs.declared.tree.Polarity.{Polarity}
+use Rattle.query_read.specs.declared.tree.Polarity.TheVariants.{Plain, Negated}
+use Rattle.query_read.specs.declared.tree.Sign.{Sign}
+use Rattle.query_types.specs.declared.typed.ColumnRef.{ColumnRef}
+use Rattle.query_types.specs.declared.typed.TypedExpr.{TypedExpr}
+use Rattle.query_types.specs.declared.typed.TypedExpr.TheOpen.{TypedExpr-F}
+use Rattle.query_types.specs.declared.typed.TypedExpr.TheFolds.{fold-TypedExpr}
+use Rattle.typed_values.specs.Intervals.{signed, combined, is_zero}
+
+-- a number or a date as its day, the bytes of a text, a truth, or no value
+pub data Value : Type 0 where
+  number : ℤ → Value
+  text : List ℕ → Value
+  truth : Bool → Value
+  null : Value
+
+-- a value, or Over: a number that leaves 128 bits
+abbrev pub Valued : Type 0
+Valued = Result Value Over
+
+-- what an expression is evaluated on: the values of columns and of aggregates
+pub record On : Type 0 where
+  pub column : ColumnRef → Value
+  pub aggregate : ℕ → Valued
+
+-- ---- Over is strict
+
+abbrev pub with : Valued → (Value → Valued) → Valued
+with (Ok v) f = f v
+with (Err e) f = Err e
+
+abbrev pub with_both : Valued → Valued → (Value → Value → Valued) → Valued
+with_both a b f = with a (λ v. with b (f v))
+
+-- ---- arithmetic: null of a null
+
+abbrev pub or_over : Option ℤ → Valued
+or_over (Some z) = Ok (number z)
+or_over None = Err over
+
+abbrev pub exact : ℤ → Valued
+exact z = or_over (in_128_bits z)
+
+abbrev pub calculated : (ℤ → ℤ → ℤ) → Value → Value → Valued
+calculated f (number x) (number y) = exact (f x y)
+calculated f a b = Ok null
+
+abbrev pub signed_value : Sign → Value → Valued
+signed_value s (number x) = exact (signed s x)
+signed_value s a = Ok null
+
+-- a quotient truncates
+abbrev pub divided : Value → Sign → ℕ → Valued
+divided (number x) s n = exact (int_div x (signed s (pos n)))
+divided a s n = Ok null
+
+-- ---- comparisons: numbers and dates by number, texts by bytes; unknown, a null, beside a null
+
+abbrev pub text_lt : List ℕ → List ℕ → Bool
+text_lt xs [] = false
+text_lt [] (y ∷ ys) = true
+text_lt (x ∷ xs) (y ∷ ys) = nat_lt x y || (not (nat_lt y x) && text_lt xs ys)
+
+-- whether the first is below the second, where both have values
+abbrev pub below : Value → Value → Option Bool
+below (number x) (number y) = Some (int_lt x y)
+below (text x) (text y) = Some (text_lt x y)
+below a b = None
+
+-- by whether the left is below the right, and the right below the left
+abbrev pub holds : BinaryOp → Bool → Bool → Bool
+holds op.Equal lt gt = not lt && not gt
+holds op.Differs lt gt = lt || gt
+holds op.Less lt gt = lt
+holds op.LessEqual lt gt = not gt
+holds op.Greater lt gt = gt
+holds o lt gt = not lt
+
+abbrev pub compared_by : BinaryOp → Option Bool → Option Bool → Value
+compared_by o (Some lt) (Some gt) = truth (holds o lt gt)
+compared_by o lt gt = null
+
+abbrev pub compared : BinaryOp → Value → Value → Value
+compared o a b = compared_by o (below a b) (below b a)
+
+-- ---- truths, where null is unknown
+
+abbrev pub both : Value → Value → Value
+both (truth false) b = truth false
+both (truth true) b = b
+both a (truth false) = truth false
+both a b = null
+
+abbrev pub opposite : Value → Value
+opposite (truth b) = truth (not b)
+opposite a = null
+
+abbrev pub either : Value → Value → Value
+either a b = opposite (both (opposite a) (opposite b))
+
+abbrev pub by_polarity : Polarity → Value → Value
+by_polarity Plain a = a
+by_polarity Negated a = opposite a
+
+-- x BETWEEN a AND b is x >= a AND x <= b
+abbrev pub between : Value → Value → Value → Value
+between x a b = both (compared op.GreaterEqual x a) (compared op.LessEqual x b)
+
+-- x IN (..) is an OR of equalities
+abbrev pub among : Value → List Value → Value
+among x [] = truth false
+among x (y ∷ ys) = either (compared op.Equal x y) (among x ys)
+
+-- ---- expressions
+
+abbrev pub joined : BinaryOp → Value → Value → Valued
+joined op.Or a b = Ok (either a b)
+joined op.And a b = Ok (both a b)
+joined op.Add a b = calculated (combined op.Add) a b
+joined op.Subtract a b = calculated (combined op.Subtract) a b
+joined op.Multiply a b = calculated (combined op.Multiply) a b
+joined o a b = Ok (compared o a b)
+
+abbrev pub more_valued : Value → Result (List Value) Over → Result (List Value) Over
+more_valued v (Ok vs) = Ok (v ∷ vs)
+more_valued v (Err e) = Err e
+
+abbrev pub all_valued : List Valued → Result (List Value) Over
+all_valued [] = Ok []
+all_valued (Err e ∷ vs) = Err e
+all_valued (Ok v ∷ vs) = more_valued v (all_valued vs)
+
+abbrev pub among_valued : Polarity → Value → Result (List Value) Over → Valued
+among_valued p x (Ok vs) = Ok (by_polarity p (among x vs))
+among_valued p x (Err e) = Err e
+
+abbrev pub form_value : On → TypedExpr-F Valued → Valued
+form_value on (TypedExpr-F.Number n) = exact (pos n)
+form_value on (TypedExpr-F.Text t) = Ok (text t)
+form_value on (TypedExpr-F.Date day) = Ok (number day)
+form_value on (TypedExpr-F.Column c kind) = Ok (on.column c)
+form_value on (TypedExpr-F.Aggregate n) = on.aggregate n
+form_value on (TypedExpr-F.Signed s a) = with a (signed_value s)
+form_value on (TypedExpr-F.Not a) = with a (λ v. Ok (opposite v))
+form_value on (TypedExpr-F.Binary o a b) = with_both a b (joined o)
+form_value on (TypedExpr-F.Divide a s n) = with a (λ v. divided v s n)
+form_value on (TypedExpr-F.Between p a b c) = with a (λ x. with_both b c (λ low high. Ok (by_polarity p (between x low high))))
+form_value on (TypedExpr-F.In p a bs) = with a (λ x. among_valued p x (all_valued bs))
+
+-- the value of an expression: every part is evaluated, whatever the others are
+unfoldable pub value : On → TypedExpr → Valued
+value on = fold-TypedExpr Valued (form_value on)
+
+-- on a row, which has no aggregate
+abbrev pub value_on_row : (ColumnRef → Value) → TypedExpr → Valued
+value_on_row columns = value (record { column = columns; aggregate = λ n. Ok null })
+
+-- on a group: the values of its columns and of its aggregates
+abbrev pub value_on_group : (ColumnRef → Value) → (ℕ → Valued) → TypedExpr → Valued
+value_on_group columns aggregates = value (record { column = columns; aggregate = aggregates })
+
+-- a condition keeps what it is true of
+abbrev pub is_true : Value → Bool
+is_true (truth b) = b
+is_true v = false

@@ -1,0 +1,12 @@
+//! What typed queries say of their values: whether an expression can leave 128 bits, and which query is the sum of a column.
+#![tactic(auto)]
+
+mod bounds;
+mod intervals;
+mod sums;
+
+pub use bounds::cannot_overflow;
+pub use sums::{SumAsked, sum_asked};
+
+#[cfg(test)]
+mod tests;
