@@ -10,7 +10,8 @@ use Rattle.std.proofs.lemmas.Option.{get_or_from_slice_get}
 use Rattle.struct_vectors.specs.Columns.{ColumnValue}
 use Rattle.control_vectors.specs.Slots.{Slot}
 use Rattle.struct_vectors.specs.Vectors.{VectorValue, columns_of, paths_of}
-use Rattle.voodoo_ops.specs.Vectors.{Label, Vector, Named, seen, seen_all, seen_attributes}
+use Rattle.programs.specs.Mentions.{Label}
+use Rattle.programs.specs.Vectors.{Vector, Named, seen, seen_all, seen_attributes}
 use Rattle.row_print.specs.Results.{Row, rows_text, head_rows, result_rows, results_text, place_row, place_rows, slot_field, field_at, slots_in}
 
 -- one column more

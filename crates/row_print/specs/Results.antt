@@ -5,7 +5,8 @@ use Rattle.std.specs.List.{flat_map, range_with_len}
 use Rattle.csv.specs.Writing.{default_writer, row_text}
 use Rattle.control_vectors.specs.Slots.{Slot}
 use Rattle.struct_vectors.specs.Columns.{ColumnValue}
-use Rattle.voodoo_ops.specs.Vectors.{Label, Vector, Named}
+use Rattle.programs.specs.Mentions.{Label}
+use Rattle.programs.specs.Vectors.{Vector, Named}
 
 -- a row: its fields
 abbrev pub Row : Type 0

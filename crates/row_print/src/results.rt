@@ -7,7 +7,7 @@ ghost use Rattle.std.specs.Io.KnownBytes.{Appends};
 ghost use Rattle.csv.specs.Records.{fields_of, partial_of};
 ghost use Rattle.io_edge.specs.Faults.{Rose};
 ghost use Rattle.io_edge.specs.Sinks.{AppendsPrefix};
-ghost use Rattle.voodoo_ops.specs.Vectors.{seen, seen_all};
+ghost use Rattle.programs.specs.Vectors.{seen, seen_all};
 ghost use Rattle.row_print.specs.Results.{results_text, result_rows, rows_text, head_rows, place_row, place_rows, slot_field, slots_in};
 
 use crate::NoMemory;

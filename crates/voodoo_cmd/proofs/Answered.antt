@@ -4,7 +4,7 @@ use Rattle.std.specs.Prelude.{Option, IfSome}
 use Rattle.std.proofs.KnownBytes.{Appends-nil, Keeps-refl}
 use Rattle.io_edge.specs.Shelves.{FileMap}
 use Rattle.voodoo_cmd.specs.declared.status.Status.{Status}
-use Rattle.voodoo_cmd.specs.declared.status.Status.TheVariants.{Done, Usage, ReadFault, WriteFault, SchemaRefused, DataRefused, QueryRefused, LimitReached, Overflow, NotYet, NoMemory}
+use Rattle.voodoo_cmd.specs.declared.status.Status.TheVariants.{Done, Usage, ReadFault, WriteFault, SchemaRefused, DataRefused, QueryRefused, AlgebraRefused, LimitReached, Overflow, NotYet, NoMemory}
 use Rattle.voodoo_cmd.specs.Outcomes.{Outcome, Meets}
 use Rattle.voodoo_cmd.specs.Leaves.{Answers, Writes}
 
@@ -15,6 +15,7 @@ writes text (Usage kind) old new h = absurd h
 writes text (ReadFault role) old new h = absurd h
 writes text (SchemaRefused at kind) old new h = absurd h
 writes text (QueryRefused at kind) old new h = absurd h
+writes text (AlgebraRefused line kind) old new h = absurd h
 writes text (LimitReached what number) old new h = absurd h
 writes text (NotYet role) old new h = absurd h
 writes text NoMemory old new h = h
@@ -36,6 +37,7 @@ refuses seen (Ok text) WriteFault old (inr h) = elim h [ inl fault ↦ absurd fa
 refuses seen (Ok text) (Usage kind) old (inr h) = elim h [ inl fault ↦ absurd fault | inr e ↦ cc ]
 refuses seen (Ok text) (SchemaRefused at kind) old (inr h) = elim h [ inl fault ↦ absurd fault | inr e ↦ cc ]
 refuses seen (Ok text) (QueryRefused at kind) old (inr h) = elim h [ inl fault ↦ absurd fault | inr e ↦ cc ]
+refuses seen (Ok text) (AlgebraRefused line kind) old (inr h) = elim h [ inl fault ↦ absurd fault | inr e ↦ cc ]
 refuses seen (Ok text) (DataRefused table at_record at_column kind) old (inr h) = elim h [ inl fault ↦ absurd fault | inr e ↦ cc ]
 refuses seen (Ok text) Overflow old (inr h) = elim h [ inl fault ↦ absurd fault | inr e ↦ cc ]
 refuses seen (Ok text) (LimitReached what number) old (inr h) = elim h [ inl fault ↦ absurd fault | inr e ↦ cc ]

@@ -5,7 +5,7 @@ use Rattle.std.specs.Option.{option_map, option_copied}
 use Rattle.std.specs.Borrow.{Bor}
 use Rattle.std.specs.Map.{lookup}
 use Rattle.control_vectors.specs.Slots.{Slot, numbers}
-use Rattle.voodoo_ops.specs.Vectors.{seen_attributes}
+use Rattle.programs.specs.Vectors.{seen_attributes}
 use Rattle.std.specs.declared.cmp.Ordering.{Ordering}
 use Rattle.std.specs.declared.cmp.Ordering.TheVariants.{Less, Equal, Greater}
 use Rattle.dict_codes.specs.Ascending.{ascending, ascending_from, placed, with_item}

@@ -8,7 +8,7 @@ use Rattle.sql_types.specs.Catalog.{findings}
 use Rattle.voodoo_cmd.specs.declared.status.FileRole.{FileRole}
 use Rattle.voodoo_cmd.specs.declared.status.FileRole.TheVariants.{Schema, Table, Text}
 use Rattle.voodoo_cmd.specs.declared.status.Status.{Status}
-use Rattle.voodoo_cmd.specs.declared.status.Status.TheVariants.{Done, Usage, ReadFault, WriteFault, SchemaRefused, DataRefused, QueryRefused, LimitReached, Overflow, NotYet, NoMemory}
+use Rattle.voodoo_cmd.specs.declared.status.Status.TheVariants.{Done, Usage, ReadFault, WriteFault, SchemaRefused, DataRefused, QueryRefused, AlgebraRefused, LimitReached, Overflow, NotYet, NoMemory}
 use Rattle.voodoo_cmd.specs.Expected.{schema_file_read}
 use Rattle.voodoo_cmd.specs.Leaves.{IsSchemaRole, SchemaFaultHasCause}
 use Rattle.voodoo_cmd.specs.Reads.{IsNumbered, TableFault, HasTableFault, HasTablesCause}
@@ -57,6 +57,7 @@ schema_fault holds schema defs before middle now Overflow later clean catalog h 
 schema_fault holds schema defs before middle now NoMemory later clean catalog h = tt
 schema_fault holds schema defs before middle now (SchemaRefused place kind) later clean catalog h = tt
 schema_fault holds schema defs before middle now (QueryRefused place kind) later clean catalog h = tt
+schema_fault holds schema defs before middle now (AlgebraRefused line kind) later clean catalog h = tt
 schema_fault holds schema defs before middle now (DataRefused table at_record at_column kind) later clean catalog h = tt
 schema_fault holds schema defs before middle now (LimitReached what number) later clean catalog h = tt
 schema_fault holds schema defs before middle now (NotYet role) later clean catalog h = tt

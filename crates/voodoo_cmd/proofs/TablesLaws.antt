@@ -10,7 +10,7 @@ use Rattle.sql_read.specs.declared.definition.TableDef.{TableDef}
 use Rattle.table_load.specs.Values.{Table as TableValue}
 use Rattle.voodoo_cmd.specs.declared.status.FileRole.TheVariants.{Table}
 use Rattle.voodoo_cmd.specs.declared.status.Status.{Status}
-use Rattle.voodoo_cmd.specs.declared.status.Status.TheVariants.{Done, Usage, ReadFault, WriteFault, SchemaRefused, DataRefused, QueryRefused, LimitReached, Overflow, NotYet, NoMemory}
+use Rattle.voodoo_cmd.specs.declared.status.Status.TheVariants.{Done, Usage, ReadFault, WriteFault, SchemaRefused, DataRefused, QueryRefused, AlgebraRefused, LimitReached, Overflow, NotYet, NoMemory}
 use Rattle.voodoo_cmd.specs.Inputs.{HasFileCause}
 use Rattle.voodoo_cmd.specs.Paths.{table_file}
 use Rattle.voodoo_cmd.specs.Reads.{HasTableFault, HasTablesCause}
@@ -149,6 +149,7 @@ table_fault holds schema defs i before middle now def ts Overflow within at late
 table_fault holds schema defs i before middle now def ts NoMemory within at later h c = tt
 table_fault holds schema defs i before middle now def ts (SchemaRefused place kind) within at later h c = tt
 table_fault holds schema defs i before middle now def ts (QueryRefused place kind) within at later h c = tt
+table_fault holds schema defs i before middle now def ts (AlgebraRefused line kind) within at later h c = tt
 table_fault holds schema defs i before middle now def ts (DataRefused table at_record at_column kind) within at later h c = tt
 table_fault holds schema defs i before middle now def ts (LimitReached what number) within at later h c = tt
 table_fault holds schema defs i before middle now def ts (NotYet role) within at later h c = tt

@@ -4,21 +4,21 @@ use Rattle.std.specs.Option.{option_map}
 use Rattle.control_vectors.specs.Slots.{Slot, numbers}
 use Rattle.io_edge.specs.Shelves.{FileMap}
 use Rattle.row_print.specs.Results.{results_text, rows_text, slot_field}
-use Rattle.query_read.specs.declared.tree.Query.{Query}
+use Rattle.query_types.specs.declared.typed.TypedQuery.{TypedQuery}
 use Rattle.sql_read.specs.declared.definition.TableDef.{TableDef}
 use Rattle.table_load.specs.Databases.{DatabaseValue}
+use Rattle.typed_values.specs.Sums.{SumAsked, sum_asked}
 use Rattle.voodoo_ops.specs.Meaning.{meaning}
 use Rattle.voodoo_ops.specs.Sums.{total_slot}
-use Rattle.voodoo_ops.specs.Vectors.{tables}
+use Rattle.programs.specs.Vectors.{tables}
 use Rattle.voodoo_cmd.specs.declared.words.Mode.{Mode}
 use Rattle.voodoo_cmd.specs.declared.words.Mode.TheVariants.{Sql, Algebra}
 use Rattle.voodoo_cmd.specs.declared.status.FileRole.{FileRole}
 use Rattle.voodoo_cmd.specs.declared.status.FileRole.TheVariants.{Schema, Table, Text}
 use Rattle.voodoo_cmd.specs.declared.status.Status.TheVariants.{ReadFault, NotYet}
-use Rattle.voodoo_cmd.specs.Asked.{Asked, sum_asked}
 use Rattle.voodoo_cmd.specs.Outcomes.{Outcome, or_refuse, ◌>>=◌}
 use Rattle.voodoo_cmd.specs.Paths.{table_file}
-use Rattle.voodoo_cmd.specs.Steps.{request_in, catalog_in, tables_from, database_in, query_in, has_integer_column, column_slots, program_in, results_outcome}
+use Rattle.voodoo_cmd.specs.Steps.{request_in, catalog_in, tables_from, database_in, query_in, names_at, column_slots, program_in, results_outcome}
 
 -- ---- the answer
 
@@ -26,18 +26,15 @@ use Rattle.voodoo_cmd.specs.Steps.{request_in, catalog_in, tables_from, database
 abbrev pub sum_text : List ℕ → List Slot → List ℕ
 sum_text header slots = rows_text ((header ∷ []) ∷ (slot_field (total_slot (numbers slots)) ∷ []) ∷ [])
 
--- the answer to the one question, where the schema has such a table with such a column of whole numbers
-abbrev pub asked_text : DatabaseValue → Asked → Outcome (List ℕ)
-asked_text db a =
-    if has_integer_column db.defs (a.table, a.column)
-    then Ok (sum_text a.header (column_slots db (a.table, a.column)))
-    else Err (NotYet Text)
+-- the answer to the one question
+abbrev pub asked_text : DatabaseValue → SumAsked → Outcome (List ℕ)
+asked_text db a = or_refuse (NotYet Text) (names_at db.defs a.table a.column) >>= λ names. Ok (sum_text a.name (column_slots db names))
 
-abbrev pub query_text : DatabaseValue → Query → Outcome (List ℕ)
+abbrev pub query_text : DatabaseValue → TypedQuery → Outcome (List ℕ)
 query_text db query = or_refuse (NotYet Text) (sum_asked query) >>= asked_text db
 
 abbrev pub query_answer : FileMap → List ℕ → DatabaseValue → Outcome (List ℕ)
-query_answer files text db = query_in files text >>= query_text db
+query_answer files text db = query_in files text db.defs >>= query_text db
 
 abbrev pub answer_of : Mode → FileMap → List ℕ → DatabaseValue → Outcome (List ℕ)
 answer_of Sql files text db = query_answer files text db

@@ -1,7 +1,7 @@
 -- The text of what a run is to write.
 use Rattle.std.specs.Prelude.{ℕ, List}
 use Rattle.row_print.specs.Results.{results_text}
-use Rattle.voodoo_ops.specs.Vectors.{seen_all}
+use Rattle.programs.specs.Vectors.{seen_all}
 use Rattle.voodoo_cmd.specs.declared.top.Answer.{Answer}
 use Rattle.voodoo_cmd.specs.declared.top.Answer.TheVariants.{Rows, Results}
 

@@ -6,32 +6,29 @@ use Rattle.voodoo_cmd.specs.declared.status.FileRole.{FileRole}
 use Rattle.voodoo_cmd.specs.declared.status.FileRole.TheVariants.{Schema, Table, Text}
 use Rattle.voodoo_cmd.specs.declared.status.LimitWhat.TheVariants.{File}
 use Rattle.voodoo_cmd.specs.declared.status.Status.{Status}
-use Rattle.voodoo_cmd.specs.declared.status.Status.TheVariants.{Done, Usage, ReadFault, WriteFault, SchemaRefused, DataRefused, QueryRefused, LimitReached, Overflow, NotYet, NoMemory}
+use Rattle.voodoo_cmd.specs.declared.status.Status.TheVariants.{Done, Usage, ReadFault, WriteFault, SchemaRefused, DataRefused, QueryRefused, AlgebraRefused, LimitReached, Overflow, NotYet, NoMemory}
 use Rattle.voodoo_cmd.specs.Outcomes.{Outcome, or_refuse, ◌>>=◌}
 
--- how long a file may be
-abbrev pub file_limit : FileRole → ℕ
-file_limit Schema = 65536
-file_limit (Table k) = 2 ^ 28
-file_limit Text = 65536
+-- how many bytes a schema, a table's file, a query and a program may have
+abbrev pub schema_limit : ℕ
+schema_limit = 65536
 
--- the limit that a longer file passes
-abbrev pub past_limit : FileRole → Status
-past_limit role = LimitReached (File role) (file_limit role + 1)
+abbrev pub table_limit : ℕ
+table_limit = 2 ^ 28
 
--- bytes that are not too long, or else this status
-abbrev pub within_limit : FileRole → Status → List ℕ → Outcome (List ℕ)
-within_limit role past bytes = if nat_le (length bytes) (file_limit role) then Ok bytes else Err past
+abbrev pub query_limit : ℕ
+query_limit = 65536
 
--- the bytes of a file in its role, or this status where it is too long
-abbrev pub file_in : FileMap → FileRole → Status → List ℕ → Outcome (List ℕ)
-file_in files role past name = or_refuse (ReadFault role) (files name) >>= within_limit role past
+abbrev pub program_limit : ℕ
+program_limit = 2 ^ 23
 
--- what a file that is too long may be answered: its limit, or that it is not read yet
-abbrev pub IsPast : FileRole → Status → Type 0
-IsPast role (LimitReached what number) = LimitReached what number ≡ past_limit role
-IsPast role (NotYet r) = r ≡ role
-IsPast role _ = ⊥
+-- bytes that are not more than the limit, or else the limit that they pass
+abbrev pub within_limit : FileRole → ℕ → List ℕ → Outcome (List ℕ)
+within_limit role limit bytes = if nat_le (length bytes) limit then Ok bytes else Err (LimitReached (File role) (limit + 1))
+
+-- the bytes of a file in its role, which has at most so many
+abbrev pub file_in : FileMap → FileRole → ℕ → List ℕ → Outcome (List ℕ)
+file_in files role limit name = or_refuse (ReadFault role) (files name) >>= within_limit role limit
 
 -- How the reading of a file in its role may end but with its value. A read fault comes only where the count of faults rose, or the
 -- shelf tells that it lacks the file.
@@ -42,6 +39,7 @@ HasFileCause holds role name before now NoMemory = Unit {0}
 HasFileCause holds role name before now (SchemaRefused at kind) = Unit {0}
 HasFileCause holds role name before now (DataRefused table at_record at_column kind) = Unit {0}
 HasFileCause holds role name before now (QueryRefused at kind) = Unit {0}
+HasFileCause holds role name before now (AlgebraRefused line kind) = Unit {0}
 HasFileCause holds role name before now (LimitReached what number) = Unit {0}
 HasFileCause holds role name before now _ = ⊥
 
@@ -68,6 +66,13 @@ abbrev pub IsQueryRefusal : Status → Type 0
 IsQueryRefusal (QueryRefused at kind) = Unit {0}
 IsQueryRefusal NoMemory = Unit {0}
 IsQueryRefusal _ = ⊥
+
+-- a refusal of the program or of its vectors' lengths, or want of memory
+abbrev pub IsProgramRefusal : Status → Type 0
+IsProgramRefusal (AlgebraRefused line kind) = Unit {0}
+IsProgramRefusal (LimitReached what number) = Unit {0}
+IsProgramRefusal NoMemory = Unit {0}
+IsProgramRefusal _ = ⊥
 
 -- a number that leaves 128 bits, or want of memory
 abbrev pub IsRunRefusal : Status → Type 0

@@ -3,7 +3,6 @@ pub mod Outcomes
 pub mod Words
 pub mod Paths
 pub mod Inputs
-pub mod Asked
 pub mod Steps
 pub mod Reads
 pub mod Narrow

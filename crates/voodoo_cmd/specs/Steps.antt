@@ -1,36 +1,43 @@
 -- The steps of a run, each a function of the files.
-use Rattle.std.specs.Prelude.{ℕ, ◌+◌, ◌&&◌, Bool, true, false, if◌then◌else◌, List, [], ◌∷◌, is_none, Result, Ok, Err}
-use Rattle.std.specs.List.{list_any}
+use Rattle.std.specs.Prelude.{ℕ, ◌+◌, ◌&&◌, Bool, true, false, if◌then◌else◌, List, [], ◌∷◌, slice_get, slice_index_or, Option, Some, None, Result, Ok, Err}
+use Rattle.std.specs.Option.{option_map}
 use Rattle.control_vectors.specs.Slots.{Slot}
 use Rattle.control_vectors.specs.declared.Over.{Over}
 use Rattle.io_edge.specs.Shelves.{FileMap}
-use Rattle.sql_read.specs.declared.definition.ColumnKind.{ColumnKind}
-use Rattle.sql_read.specs.declared.definition.ColumnKind.TheVariants as kind
-use Rattle.sql_read.specs.declared.definition.ColumnDef.{ColumnDef}
 use Rattle.sql_read.specs.declared.definition.TableDef.{TableDef}
 use Rattle.sql_read.specs.declared.refusal.SqlRefusal.{SqlRefusal}
 use Rattle.sql_read.specs.declared.refusal.SqlRefusal.TheVariants as text
 use Rattle.sql_read.specs.SchemaText.{schema_of}
 use Rattle.query_read.specs.declared.tree.Query.{Query}
 use Rattle.query_read.specs.QueryText.{query_of}
+use Rattle.query_types.specs.declared.refusal.TypeRefusal.{TypeRefusal}
+use Rattle.query_types.specs.declared.refusal.TypeRefusal.TheVariants as typing
+use Rattle.query_types.specs.declared.typed.TypedQuery.{TypedQuery}
+use Rattle.query_types.specs.Typing.{typed_query}
 use Rattle.sql_types.specs.declared.refusal.SchemaRefusal.{SchemaRefusal}
 use Rattle.sql_types.specs.declared.refusal.SchemaRefusal.TheVariants as catalog
-use Rattle.sql_types.specs.Catalog.{catalog_of, is_table_named, is_column_named}
+use Rattle.sql_types.specs.Catalog.{catalog_of}
 use Rattle.table_load.specs.declared.refusal.DataRefusal.{DataRefusal}
 use Rattle.table_load.specs.declared.refusal.DataRefusal.TheVariants as loading
 use Rattle.table_load.specs.Values.{Table as TableValue}
 use Rattle.table_load.specs.Tables.{table_of}
 use Rattle.table_load.specs.Databases.{DatabaseValue, database_of}
-use Rattle.voodoo_ops.specs.declared.op.Statement.{Statement}
-use Rattle.voodoo_ops.specs.Check.{Outline, Fault, check, outlines, limit_of}
-use Rattle.voodoo_ops.specs.Vectors.{Env, Named, known, slots_of, tables}
-use Rattle.voodoo_text.specs.Reading.{program_of}
+use Rattle.programs.specs.declared.op.Statement.{Statement}
+use Rattle.programs.specs.Check.{Fault, check, limit_of}
+use Rattle.programs.specs.Outlines.{Outline, outlines}
+use Rattle.programs.specs.Vectors.{Env, Named, known, slots_of, tables}
+use Rattle.voodoo_text.specs.declared.read_text.ReadProgram.{ReadProgram}
+use Rattle.voodoo_text.specs.declared.refusal.TextRefusal.{TextRefusal}
+use Rattle.voodoo_text.specs.declared.refusal.TextRefusal.TheVariants as algebra
+use Rattle.voodoo_text.specs.Reading.{read_text}
 use Rattle.voodoo_cmd.specs.declared.status.UsageKind.TheVariants as usage
 use Rattle.voodoo_cmd.specs.declared.status.FileRole.TheVariants.{Schema, Table, Text}
 use Rattle.voodoo_cmd.specs.declared.status.SchemaCause.TheVariants as cause
 use Rattle.voodoo_cmd.specs.declared.status.QueryCause.TheVariants as query_cause
-use Rattle.voodoo_cmd.specs.declared.status.Status.TheVariants.{Usage, SchemaRefused, DataRefused, QueryRefused, NotYet, Overflow, NoMemory}
-use Rattle.voodoo_cmd.specs.Inputs.{file_in, past_limit}
+use Rattle.voodoo_cmd.specs.declared.status.AlgebraCause.TheVariants as algebra_cause
+use Rattle.voodoo_cmd.specs.declared.status.LimitWhat.TheVariants.{Slots}
+use Rattle.voodoo_cmd.specs.declared.status.Status.TheVariants.{Usage, SchemaRefused, DataRefused, QueryRefused, AlgebraRefused, LimitReached, NotYet, Overflow, NoMemory}
+use Rattle.voodoo_cmd.specs.Inputs.{file_in, schema_limit, table_limit, query_limit, program_limit}
 use Rattle.voodoo_cmd.specs.Outcomes.{Outcome, or_refuse, ◌>>=◌}
 use Rattle.voodoo_cmd.specs.Paths.{table_file}
 use Rattle.voodoo_cmd.specs.Words.{Request, request_of}
@@ -52,7 +59,7 @@ catalog_outcome (Err (catalog.Bad at kind)) = Err (SchemaRefused at (cause.Catal
 
 abbrev pub catalog_in : FileMap → List ℕ → Outcome (List TableDef)
 catalog_in files name = do
-  bytes ← file_in files Schema (past_limit Schema) name
+  bytes ← file_in files Schema schema_limit name
   defs ← text_outcome (schema_of bytes)
   catalog_outcome (catalog_of defs)
 
@@ -63,7 +70,7 @@ table_outcome k (Err loading.NoMemory) = Err NoMemory
 table_outcome k (Err (loading.Bad at_record at_column kind)) = Err (DataRefused k at_record at_column kind)
 
 abbrev pub table_in : FileMap → List ℕ → ℕ → TableDef → Outcome TableValue
-table_in files schema k def = file_in files (Table k) (past_limit (Table k)) (table_file schema def.name) >>= λ bytes. table_outcome k (table_of def bytes)
+table_in files schema k def = file_in files (Table k) table_limit (table_file schema def.name) >>= λ bytes. table_outcome k (table_of def bytes)
 
 -- the tables of some definitions, of which the first has this number, in the schema's order
 unfoldable pub tables_from : FileMap → List ℕ → ℕ → List TableDef → Outcome (List TableValue)
@@ -80,54 +87,69 @@ database_in files schema = do
   ts ← tables_from files schema 1 defs
   Ok (database_of defs ts)
 
--- ---- the query's file gives its tree, or the first refusal of its text
+-- ---- the query's file gives what its names mean, or the first refusal of its text, or of its typing
 abbrev pub query_outcome : Result Query SqlRefusal → Outcome Query
 query_outcome (Ok q) = Ok q
 query_outcome (Err text.NoMemory) = Err NoMemory
 query_outcome (Err (text.Bad at kind)) = Err (QueryRefused at (query_cause.Text kind))
 
-abbrev pub query_in : FileMap → List ℕ → Outcome Query
-query_in files name = file_in files Text (past_limit Text) name >>= λ bytes. query_outcome (query_of bytes)
+abbrev pub typing_outcome : Result TypedQuery TypeRefusal → Outcome TypedQuery
+typing_outcome (Ok q) = Ok q
+typing_outcome (Err typing.NoMemory) = Err NoMemory
+typing_outcome (Err (typing.Bad at kind)) = Err (QueryRefused at (query_cause.Typing kind))
 
--- ---- the columns of whole numbers
-abbrev pub is_integer : ColumnKind → Bool
-is_integer kind.Integer = true
-is_integer kind = false
+-- the query of a text, over a schema's tables
+abbrev pub query_over : List TableDef → List ℕ → Outcome TypedQuery
+query_over defs bytes = query_outcome (query_of bytes) >>= λ q. typing_outcome (typed_query q defs)
 
--- a table's and a column's name
+abbrev pub query_in : FileMap → List ℕ → List TableDef → Outcome TypedQuery
+query_in files name defs = file_in files Text query_limit name >>= query_over defs
+
+-- a table's and a column's name, by their places
 abbrev pub Names : Type 0
 Names = List ℕ × List ℕ
 
-abbrev pub is_integer_named : List ℕ → ColumnDef → Bool
-is_integer_named name c = is_column_named name c && is_integer c.kind
+abbrev pub names_in : ℕ → Option TableDef → Option Names
+names_in column None = None
+names_in column (Some t) = option_map (λ c. (t.name, c.name)) (slice_get t.columns column)
 
-abbrev pub has_integer_named : List ColumnDef → List ℕ → Bool
-has_integer_named columns name = list_any (is_integer_named name) columns
-
--- some table of the schema has that name, and a column of whole numbers of that name
-abbrev pub has_integer_column : List TableDef → Names → Bool
-has_integer_column defs names = list_any (λ t. is_table_named names.0 t && has_integer_named t.columns names.1) defs
+abbrev pub names_at : List TableDef → ℕ → ℕ → Option Names
+names_at defs table column = names_in column (slice_get defs table)
 
 -- the slots of a table's column
 abbrev pub column_slots : DatabaseValue → Names → List Slot
 column_slots db names = slots_of (known (tables db.store names.0)).attributes (46 ∷ names.1)
 
--- ---- a program in its canonical text, which its check takes and whose vectors are no longer than 2^22 places
-abbrev pub has_no_limit : Result (List Outline) Fault → Bool
-has_no_limit (Ok shape) = is_none (limit_of shape)
-has_no_limit (Err e) = false
+-- ---- the program's file gives its statements, each with its line, or the first refusal of its text
+abbrev pub read_outcome : Result ReadProgram TextRefusal → Outcome ReadProgram
+read_outcome (Ok r) = Ok r
+read_outcome (Err algebra.NoMemory) = Err NoMemory
+read_outcome (Err (algebra.Bad line kind)) = Err (AlgebraRefused line (algebra_cause.Text kind))
 
-abbrev pub can_run : Env → List Statement → Bool
-can_run store program = has_no_limit (check (outlines store) program)
+-- the line of a statement, by its number from 1 on; 0 where a refusal names no statement
+abbrev pub line_of : List ℕ → ℕ → ℕ
+line_of lines statement = slice_index_or (0 ∷ lines) statement 0
 
-abbrev pub runnable : Env → List Statement → Outcome (List Statement)
-runnable store program = if can_run store program then Ok program else Err (NotYet Text)
+-- the outlines of a program that its check takes, or the line of its first fault
+abbrev pub check_outcome : List ℕ → Result (List Outline) Fault → Outcome (List Outline)
+check_outcome lines (Ok shape) = Ok shape
+check_outcome lines (Err e) = Err (AlgebraRefused (line_of lines e.statement) (algebra_cause.Program e.kind))
+
+-- the program, where no vector is longer than the limit; else the length of the first that is
+abbrev pub within_slots : List Statement → Option (ℕ × ℕ) → Outcome (List Statement)
+within_slots program None = Ok program
+within_slots program (Some past) = Err (LimitReached Slots past.1)
+
+-- the program that was read, where it can be run over the tables
+abbrev pub runnable : Env → ReadProgram → Outcome (List Statement)
+runnable store read = check_outcome read.lines (check (outlines store) read.program) >>= λ shape. within_slots read.program (limit_of shape)
+
+-- the program of a text, where it can be run over the tables
+abbrev pub program_over : Env → List ℕ → Outcome (List Statement)
+program_over store bytes = read_outcome (read_text bytes) >>= runnable store
 
 abbrev pub program_in : FileMap → List ℕ → DatabaseValue → Outcome (List Statement)
-program_in files name db = do
-  bytes ← file_in files Text (NotYet Text) name
-  program ← or_refuse (NotYet Text) (program_of bytes)
-  runnable (tables db.store) program
+program_in files name db = file_in files Text program_limit name >>= program_over (tables db.store)
 
 -- a program's results, or Overflow
 abbrev pub results_outcome : Result Named Over → Outcome Named

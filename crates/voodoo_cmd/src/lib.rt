@@ -1,7 +1,6 @@
 //! The top call: from the words of the command line, a shelf of files and two sinks to a status.
 #![tactic(auto)]
 
-mod asked;
 mod inputs;
 mod line;
 mod paths;

@@ -4,14 +4,20 @@ ghost use Rattle.std.specs.Prelude.{◌≡◌, ◌++◌, OnOk, OnErr};
 ghost use Rattle.std.specs.Io.KnownBytes.{Appends};
 ghost use Rattle.io_edge.specs.Faults.{HasCause};
 ghost use Rattle.io_edge.specs.Sinks.{AppendsPrefix};
-ghost use Rattle.voodoo_cmd.specs.Statuses.{status_line, role_name, byte_line, data_line, file_limit_line, line_end, schema_cause_name, query_cause_name, schema_kind_name, sql_kind_name, data_kind_name, data_kind_number};
+ghost use Rattle.voodoo_cmd.specs.declared.status.LimitWhat.{LimitWhat};
+ghost use Rattle.voodoo_cmd.specs.Statuses.{status_line, role_name, place_line, data_line, limit_line, line_end, schema_cause_name, query_cause_name, algebra_cause_name, schema_kind_name, sql_kind_name, type_kind_name, text_kind_name, program_kind_name, data_kind_name, data_kind_number};
 
-use crate::status::{FileRole, LimitWhat, QueryCause, SchemaCause, Status, UsageKind};
+use crate::status::{
+    AlgebraCause, FileRole, LimitWhat, QueryCause, SchemaCause, Status, UsageKind,
+};
 use io_edge::{Failed, Sink, write_all, write_pieces};
 use itoa::Buffer;
+use programs::ProgramKind;
+use query_types::TypeKind;
 use sql_read::SqlKind;
 use sql_types::SchemaKind;
 use table_load::DataKind;
+use voodoo_text::TextKind;
 
 /// Writes the line of a status, and nothing for `Done`. Where it fails, a prefix of the line was
 /// written.
@@ -25,7 +31,7 @@ pub(crate) fn write_line<E: Sink>(err: &mut E, status: &Status) -> Result<(), Fa
         Status::Usage(UsageKind::Words) => write_all(err, b"voodoo: usage: Words\n"),
         Status::ReadFault(role) => write_role_line(err, b"voodoo: cannot read ", role),
         Status::WriteFault => write_all(err, b"voodoo: cannot write\n"),
-        Status::SchemaRefused { at, kind } => write_byte_line(
+        Status::SchemaRefused { at, kind } => write_place_line(
             err,
             b"voodoo: schema: byte ",
             *at,
@@ -38,12 +44,15 @@ pub(crate) fn write_line<E: Sink>(err: &mut E, status: &Status) -> Result<(), Fa
             kind,
         } => write_data_line(err, *table, *at_record, *at_column, kind),
         Status::QueryRefused { at, kind } => {
-            write_byte_line(err, b"voodoo: query: byte ", *at, query_cause_name(kind))
+            write_place_line(err, b"voodoo: query: byte ", *at, query_cause_name(kind))
         }
-        Status::LimitReached {
-            what: LimitWhat::File(role),
-            number,
-        } => write_limit_line(err, role, *number),
+        Status::AlgebraRefused { line, kind } => write_place_line(
+            err,
+            b"voodoo: algebra: line ",
+            *line,
+            algebra_cause_name(kind),
+        ),
+        Status::LimitReached { what, number } => write_limit_line(err, what, *number),
         Status::Overflow => write_all(err, b"voodoo: overflow\n"),
         Status::NotYet(role) => write_role_line(err, b"voodoo: not yet: ", role),
         Status::NoMemory => write_all(err, b"voodoo: out of memory\n"),
@@ -67,15 +76,15 @@ fn write_role_line<E: Sink>(err: &mut E, start: &[u8], role: &FileRole) -> Resul
     }
 }
 
-/// Writes the line of a text that is refused at a byte.
-fn write_byte_line<E: Sink>(err: &mut E, start: &[u8], at: u32, name: &str) -> Result<(), Failed>
-    ensures whole { OnOk result (Appends (E.written err.old) (E.written err.new) (byte_line start.now at name.now)) }
-    ensures prefix { OnErr result (AppendsPrefix (E.written err.old) (E.written err.new) (byte_line start.now at name.now)) }
+/// Writes the line of a text that is refused at a byte or at a line.
+fn write_place_line<E: Sink>(err: &mut E, start: &[u8], at: u32, name: &str) -> Result<(), Failed>
+    ensures whole { OnOk result (Appends (E.written err.old) (E.written err.new) (place_line start.now at name.now)) }
+    ensures prefix { OnErr result (AppendsPrefix (E.written err.old) (E.written err.new) (place_line start.now at name.now)) }
     ensures cause { HasCause (E.faults err.old) (E.faults err.new) result }
 {
     let mut digits = Buffer::new();
-    let byte = digits.format(at).as_bytes();
-    write_pieces(err, &[start, byte, b": ", name.as_bytes(), b"\n"])
+    let place = digits.format(at).as_bytes();
+    write_pieces(err, &[start, place, b": ", name.as_bytes(), b"\n"])
 }
 
 /// Writes the line of a table that is refused at a record and a column.
@@ -116,19 +125,41 @@ fn write_data_line<E: Sink>(
     )
 }
 
+/// Writes the line of a limit that is passed.
+fn write_limit_line<E: Sink>(err: &mut E, what: &LimitWhat, number: u64) -> Result<(), Failed>
+    ensures whole { OnOk result (Appends (E.written err.old) (E.written err.new) (limit_line what.now number)) }
+    ensures prefix { OnErr result (AppendsPrefix (E.written err.old) (E.written err.new) (limit_line what.now number)) }
+    ensures cause { HasCause (E.faults err.old) (E.faults err.new) result }
+{
+    match what {
+        LimitWhat::Slots => write_slots_line(err, number),
+        LimitWhat::File(role) => write_file_line(err, role, number),
+    }
+}
+
+/// Writes the line of a vector that is longer than its limit.
+fn write_slots_line<E: Sink>(err: &mut E, number: u64) -> Result<(), Failed>
+    ensures whole { OnOk result (Appends (E.written err.old) (E.written err.new) (limit_line LimitWhat.Slots number)) }
+    ensures prefix { OnErr result (AppendsPrefix (E.written err.old) (E.written err.new) (limit_line LimitWhat.Slots number)) }
+    ensures cause { HasCause (E.faults err.old) (E.faults err.new) result }
+{
+    let mut digits = Buffer::new();
+    let count = digits.format(number).as_bytes();
+    write_pieces(err, &[b"voodoo: limit: ", b"slots", b": ", count, b"\n"])
+}
+
 /// Writes the line of a file that is longer than its limit.
-fn write_limit_line<E: Sink>(err: &mut E, role: &FileRole, number: u64) -> Result<(), Failed>
-    ensures whole { OnOk result (Appends (E.written err.old) (E.written err.new) (file_limit_line role.now number)) }
-    ensures prefix { OnErr result (AppendsPrefix (E.written err.old) (E.written err.new) (file_limit_line role.now number)) }
+fn write_file_line<E: Sink>(err: &mut E, role: &FileRole, number: u64) -> Result<(), Failed>
+    ensures whole { OnOk result (Appends (E.written err.old) (E.written err.new) (limit_line (LimitWhat.File role.now) number)) }
+    ensures prefix { OnErr result (AppendsPrefix (E.written err.old) (E.written err.new) (limit_line (LimitWhat.File role.now) number)) }
     ensures cause { HasCause (E.faults err.old) (E.faults err.new) result }
 {
     let mut digits = Buffer::new();
     let count = digits.format(number).as_bytes();
     match role {
-        FileRole::Schema => write_pieces(
-            err,
-            &[b"voodoo: limit: ", b"schema", b": ", count, b"\n"],
-        ),
+        FileRole::Schema => {
+            write_pieces(err, &[b"voodoo: limit: ", b"schema", b": ", count, b"\n"])
+        }
         FileRole::Table(k) => {
             let mut table_digits = Buffer::new();
             let table = table_digits.format(*k).as_bytes();
@@ -181,8 +212,68 @@ fn schema_cause_name(cause: &SchemaCause) -> &'static str
 fn query_cause_name(cause: &QueryCause) -> &'static str
     ensures { result.now ≡ query_cause_name cause.now }
 {
-    let QueryCause::Text(kind) = cause;
-    sql_kind_name(*kind)
+    match cause {
+        QueryCause::Text(kind) => sql_kind_name(*kind),
+        QueryCause::Typing(kind) => type_kind_name(*kind),
+    }
+}
+
+/// The name of a program's cause, as it is printed.
+fn algebra_cause_name(cause: &AlgebraCause) -> &'static str
+    ensures { result.now ≡ algebra_cause_name cause.now }
+{
+    match cause {
+        AlgebraCause::Text(kind) => text_kind_name(*kind),
+        AlgebraCause::Program(kind) => program_kind_name(*kind),
+    }
+}
+
+fn type_kind_name(kind: TypeKind) -> &'static str
+    ensures { result.now ≡ type_kind_name kind }
+{
+    match kind {
+        TypeKind::UnknownTable => "UnknownTable",
+        TypeKind::UnknownColumn => "UnknownColumn",
+        TypeKind::Ambiguous => "Ambiguous",
+        TypeKind::NameTwice => "NameTwice",
+        TypeKind::TypesDiffer => "TypesDiffer",
+        TypeKind::NotGrouped => "NotGrouped",
+        TypeKind::NestedAggregate => "NestedAggregate",
+        TypeKind::NotAKey => "NotAKey",
+        TypeKind::ZeroDivisor => "ZeroDivisor",
+        TypeKind::NotColumns => "NotColumns",
+        TypeKind::TooManyTables => "TooManyTables",
+        TypeKind::TooManyItems => "TooManyItems",
+        TypeKind::TooManyKeys => "TooManyKeys",
+    }
+}
+
+fn text_kind_name(kind: TextKind) -> &'static str
+    ensures { result.now ≡ text_kind_name kind }
+{
+    match kind {
+        TextKind::NotText => "NotText",
+        TextKind::BadToken => "BadToken",
+        TextKind::Unexpected => "Unexpected",
+        TextKind::BadNumber => "BadNumber",
+        TextKind::NotAdmissible => "NotAdmissible",
+    }
+}
+
+fn program_kind_name(kind: ProgramKind) -> &'static str
+    ensures { result.now ≡ program_kind_name kind }
+{
+    match kind {
+        ProgramKind::TooManyStatements => "TooManyStatements",
+        ProgramKind::UnknownName => "UnknownName",
+        ProgramKind::NoSuchPath => "NoSuchPath",
+        ProgramKind::NoLength => "NoLength",
+        ProgramKind::PathClash => "PathClash",
+        ProgramKind::TooDeep => "TooDeep",
+        ProgramKind::TooManyKeys => "TooManyKeys",
+        ProgramKind::NameTwice => "NameTwice",
+        ProgramKind::NoPersist => "NoPersist",
+    }
 }
 
 fn sql_kind_name(kind: SqlKind) -> &'static str

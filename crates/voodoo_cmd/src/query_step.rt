@@ -1,10 +1,9 @@
 //! The step that reads the query, and its answer.
 
-ghost use Rattle.std.specs.Prelude.{◌≡◌, ◌≤◌, ◌<◌, ◌^◌, ◌++◌, ◌∷◌, [], IfErr, IfOk, IfSome, OnOk, length};
-ghost use Rattle.std.specs.Option.{option_copied};
+ghost use Rattle.std.specs.Prelude.{◌≡◌, ◌≤◌, ◌<◌, ◌^◌, ◌++◌, ◌∷◌, [], IfErr, IfOk, IfSome, MatchOption, OnOk, None, Some, length};
 ghost use Rattle.control_vectors.specs.Slots.{numbers};
-ghost use Rattle.query_read.specs.QueryText.{query_of};
 ghost use Rattle.csv.specs.Writing.{default_writer, row_text};
+ghost use Rattle.query_types.specs.Typing.{typed_query};
 ghost use Rattle.voodoo_ops.specs.Sums.{total_slot};
 ghost use Rattle.voodoo_cmd.specs.Expected as expected;
 ghost use Rattle.voodoo_cmd.specs.Inputs.{HasFileCause, IsQueryRefusal, IsTextRefusal};
@@ -12,58 +11,67 @@ ghost use Rattle.voodoo_cmd.specs.Narrow.{IsNarrowIfAny, IsNarrowStore, slots_se
 ghost use Rattle.voodoo_cmd.specs.Outcomes.{Meets};
 ghost use Rattle.voodoo_cmd.specs.Steps as spec;
 
-use crate::asked::sum_asked;
-use crate::inputs::{past_limit, read_file};
+use crate::inputs::{QUERY_LIMIT, read_file};
 use crate::status::{FileRole, QueryCause, Status};
+use control_vectors::Slot;
 use csv::ByteRecord;
 use io_edge::{Name, NoMemory, Shelf};
 use itoa::Buffer;
 use query_read::{Query, read_query};
+use query_types::{TypeRefusal, TypedQuery, type_query};
 use row_print::RowText;
-use sql_read::{ColumnDef, ColumnKind, SqlRefusal, TableDef};
+use sql_read::{SqlRefusal, TableDef};
+use sql_types::Catalog;
 use std::alloc::{AllocError, Global};
 use struct_vectors::Column;
 use table_load::Database;
+use typed_values::sum_asked;
+use voodoo_ops::RunRefusal;
 use voodoo_ops::sums::column_total;
-use voodoo_ops::{RunRefusal, Slot};
 
 /// The answer to the query.
 pub(crate) fn query_answer<S: Shelf>(
     alloc: Global,
     shelf: &mut S,
     file: &str,
+    catalog: &Catalog,
     db: &Database,
 ) -> Result<Vec<u8>, Status>
+    requires defs { db.now.defs ≡ catalog.now }
     requires narrow { IsNarrowStore db.now.store }
     ensures same_files { S.holds shelf.new ≡ S.holds shelf.old }
     ensures later { S.faults shelf.old ≤ S.faults shelf.new }
     ensures text { IfSome (S.holds shelf.old) (λ files. Meets (λ v. v.items) result (expected.query_answer files file.now db.now)) }
     ensures cause { IfErr result (HasFileCause (S.holds shelf.old) FileRole.Text file.now (S.faults shelf.old) (S.faults shelf.new)) }
 {
-    let query = read_query_file(alloc, shelf, file)?;
+    let query = read_query_file(alloc, shelf, file, catalog)?;
     answered(alloc, query, db)
 }
 
-/// The query.
-fn read_query_file<S: Shelf>(alloc: Global, shelf: &mut S, file: &str) -> Result<Query, Status>
+/// The query, over the tables of a catalog.
+fn read_query_file<S: Shelf>(
+    alloc: Global,
+    shelf: &mut S,
+    file: &str,
+    catalog: &Catalog,
+) -> Result<TypedQuery, Status>
     ensures same_files { S.holds shelf.new ≡ S.holds shelf.old }
     ensures later { S.faults shelf.old ≤ S.faults shelf.new }
-    ensures query { IfSome (S.holds shelf.old) (λ files. Meets (λ q. q) result (spec.query_in files file.now)) }
+    ensures query { IfSome (S.holds shelf.old) (λ files. Meets (λ q. q) result (spec.query_in files file.now catalog.now)) }
     ensures cause { IfErr result (HasFileCause (S.holds shelf.old) FileRole.Text file.now (S.faults shelf.old) (S.faults shelf.new)) }
 {
-    let past = past_limit(FileRole::Text);
-    let bytes = read_file(alloc, shelf, FileRole::Text, past, file)?;
-    query_of(alloc, bytes.as_slice())
+    let bytes = read_file(alloc, shelf, FileRole::Text, QUERY_LIMIT, file)?;
+    query_over(alloc, bytes.as_slice(), catalog)
 }
 
-/// The query of a text.
-fn query_of(alloc: Global, bytes: &[u8]) -> Result<Query, Status>
+/// The query of a text, over the tables of a catalog.
+fn query_over(alloc: Global, bytes: &[u8], catalog: &Catalog) -> Result<TypedQuery, Status>
     requires { length bytes.now < 2 ^ 32 }
-    ensures query { Meets (λ q. q) result (spec.query_outcome (query_of bytes.now)) }
+    ensures query { Meets (λ q. q) result (spec.query_over catalog.now bytes.now) }
     ensures kind { IfErr result IsQueryRefusal }
 {
     match read_query(alloc, bytes) {
-        Ok(query) => Ok(query),
+        Ok(query) => typed(alloc, query, catalog),
         Err(SqlRefusal::NoMemory) => Err(Status::NoMemory),
         Err(SqlRefusal::Bad { at, kind }) => Err(Status::QueryRefused {
             at,
@@ -72,8 +80,23 @@ fn query_of(alloc: Global, bytes: &[u8]) -> Result<Query, Status>
     }
 }
 
+/// What the names of a query mean, which is let go.
+fn typed(alloc: Global, query: Query, catalog: &Catalog) -> Result<TypedQuery, Status>
+    ensures query { Meets (λ q. q) result (spec.typing_outcome (typed_query query catalog.now)) }
+    ensures kind { IfErr result IsQueryRefusal }
+{
+    match type_query(alloc, &query, catalog) {
+        Ok(typed) => Ok(typed),
+        Err(TypeRefusal::NoMemory) => Err(Status::NoMemory),
+        Err(TypeRefusal::Bad { at, kind }) => Err(Status::QueryRefused {
+            at,
+            kind: QueryCause::Typing(kind),
+        }),
+    }
+}
+
 /// The answer to a query, which is let go.
-fn answered(alloc: Global, query: Query, db: &Database) -> Result<Vec<u8>, Status>
+fn answered(alloc: Global, query: TypedQuery, db: &Database) -> Result<Vec<u8>, Status>
     requires narrow { IsNarrowStore db.now.store }
     ensures text { Meets (λ v. v.items) result (expected.query_text db.now query) }
     ensures kind { IfErr result IsTextRefusal }
@@ -81,9 +104,9 @@ fn answered(alloc: Global, query: Query, db: &Database) -> Result<Vec<u8>, Statu
     query_text(alloc, &query, db)
 }
 
-/// The answer to a query, where it asks for the sum of a column of whole numbers. A column that is
-/// not kept has no slots.
-fn query_text(alloc: Global, query: &Query, db: &Database) -> Result<Vec<u8>, Status>
+/// The answer to a query, where it asks for the sum of a column. A column that is not kept has no
+/// slots.
+fn query_text(alloc: Global, query: &TypedQuery, db: &Database) -> Result<Vec<u8>, Status>
     requires narrow { IsNarrowStore db.now.store }
     ensures text { Meets (λ v. v.items) result (expected.query_text db.now query.now) }
     ensures kind { IfErr result IsTextRefusal }
@@ -91,27 +114,26 @@ fn query_text(alloc: Global, query: &Query, db: &Database) -> Result<Vec<u8>, St
     let Some(asked) = sum_asked(query) else {
         return Err(Status::NotYet(FileRole::Text));
     };
-    if !has_integer_column(db.defs(), asked.table.text(), asked.column.text()) {
+    let Some((table, column)) = names_at(db.defs(), asked.table, asked.column) else {
         return Err(Status::NotYet(FileRole::Text));
+    };
+    let column = kept_column(alloc, db, table, column.text())?;
+    Ok(sum_text(alloc, asked.name.text(), column)?)
+}
+
+/// The names of a table and of its column, by their places.
+fn names_at(defs: &[TableDef], table: u32, column: u32) -> Option<(&Name, &Name)>
+    ensures { MatchOption result
+        (spec.names_at defs.now table column ≡ None)
+        (λ names. spec.names_at defs.now table column ≡ Some (names.0.now, names.1.now)) }
+{
+    let Some(t) = defs.get(table as usize) else {
+        return None;
+    };
+    match t.columns.as_slice().get(column as usize) {
+        None => None,
+        Some(c) => Some((&t.name, &c.name)),
     }
-    let column = kept_column(alloc, db, asked.table, asked.column.text())?;
-    Ok(sum_text(alloc, asked.header, column)?)
-}
-
-/// Whether some table of the schema has that name, and a column of whole numbers of that name.
-fn has_integer_column(defs: &[TableDef], table: &str, column: &str) -> bool
-    ensures { result ≡ spec.has_integer_column defs.now (table.now, column.now) }
-{
-    defs.iter().any(|t| t.name.text() == table && has_integer_named(t.columns.as_slice(), column))
-}
-
-/// Whether a column of whole numbers has that name.
-fn has_integer_named(columns: &[ColumnDef], name: &str) -> bool
-    ensures { result ≡ spec.has_integer_named columns.now name.now }
-{
-    columns
-        .iter()
-        .any(|c| c.name.text() == name && c.kind == ColumnKind::Integer)
 }
 
 /// The column of a table, where it is kept.

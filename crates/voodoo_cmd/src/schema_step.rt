@@ -7,7 +7,7 @@ ghost use Rattle.voodoo_cmd.specs.Inputs.{HasFileCause, IsSchemaRefusal};
 ghost use Rattle.voodoo_cmd.specs.Outcomes.{Meets};
 ghost use Rattle.voodoo_cmd.specs.Steps.{catalog_in, text_outcome, catalog_outcome};
 
-use crate::inputs::{past_limit, read_file};
+use crate::inputs::{SCHEMA_LIMIT, read_file};
 use crate::status::{FileRole, SchemaCause, Status};
 use io_edge::Shelf;
 use sql_read::{SqlRefusal, TableDef, read_schema};
@@ -26,8 +26,7 @@ pub(crate) fn read_catalog<S: Shelf>(
     ensures clean { IfOk result (λ c. spec.findings c ≡ []) }
     ensures cause { IfErr result (HasFileCause (S.holds shelf.old) FileRole.Schema file.now (S.faults shelf.old) (S.faults shelf.new)) }
 {
-    let past = past_limit(FileRole::Schema);
-    let bytes = read_file(alloc, shelf, FileRole::Schema, past, file)?;
+    let bytes = read_file(alloc, shelf, FileRole::Schema, SCHEMA_LIMIT, file)?;
     let defs = defs_of(alloc, bytes.as_slice())?;
     catalog_of(defs)
 }

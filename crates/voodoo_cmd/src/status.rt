@@ -3,10 +3,13 @@
 ghost use Rattle.std.specs.Prelude.{◌≡◌};
 ghost use Rattle.voodoo_cmd.specs.Statuses.{status_code};
 
+use programs::ProgramKind;
+use query_types::TypeKind;
 use sql_read::SqlKind;
 use sql_types::SchemaKind;
 use std::alloc::AllocError;
 use table_load::DataKind;
+use voodoo_text::TextKind;
 
 /// What is wrong with the words of the command line.
 #[derive(Clone, Copy, Debug, PartialEq, Eq)]
@@ -32,15 +35,25 @@ pub enum SchemaCause {
     Catalog(SchemaKind),
 }
 
-/// Why a query is refused: by its text.
+/// Why a query is refused: by its text, or by what its names mean.
 #[derive(Clone, Copy, Debug, PartialEq, Eq)]
 pub enum QueryCause {
     Text(SqlKind),
+    Typing(TypeKind),
+}
+
+/// Why a program of the algebra is refused: by its text, or by its check.
+#[derive(Clone, Copy, Debug, PartialEq, Eq)]
+pub enum AlgebraCause {
+    Text(TextKind),
+    Program(ProgramKind),
 }
 
 /// What a limit is on.
 #[derive(Clone, Copy, Debug, PartialEq, Eq)]
 pub enum LimitWhat {
+    /// The slots of a vector.
+    Slots,
     /// A file's bytes.
     File(FileRole),
 }
@@ -74,14 +87,21 @@ pub enum Status {
         at: u32,
         kind: QueryCause,
     },
-    /// A limit is passed. The number is the limit plus one.
+    /// The program is refused at a line of its text, counted from 1; at line 0 where it names no
+    /// result.
+    AlgebraRefused {
+        line: u32,
+        kind: AlgebraCause,
+    },
+    /// A limit is passed: by a vector of so many slots, or by a file, where the number is the limit
+    /// plus one.
     LimitReached {
         what: LimitWhat,
         number: u64,
     },
     /// A number of the answer leaves 128 bits.
     Overflow,
-    /// That file is longer, or of another form, than what is understood today.
+    /// That file asks for more than is answered today.
     NotYet(FileRole),
     /// Memory was refused.
     NoMemory,
@@ -100,6 +120,7 @@ impl Status {
             Status::SchemaRefused { .. } => 5,
             Status::DataRefused { .. } => 6,
             Status::QueryRefused { .. } => 7,
+            Status::AlgebraRefused { .. } => 9,
             Status::LimitReached { .. } => 10,
             Status::Overflow => 11,
             Status::NoMemory => 12,

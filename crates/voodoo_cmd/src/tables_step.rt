@@ -10,7 +10,7 @@ ghost use Rattle.voodoo_cmd.specs.Paths as paths;
 ghost use Rattle.voodoo_cmd.specs.Reads.{HasTablesCause};
 ghost use Rattle.voodoo_cmd.specs.Steps.{table_in, table_outcome, tables_from};
 
-use crate::inputs::{past_limit, read_file};
+use crate::inputs::{TABLE_LIMIT, read_file};
 use crate::paths::table_file;
 use crate::status::{FileRole, Status};
 use io_edge::{NoMemory, Shelf};
@@ -67,7 +67,7 @@ fn read_table<S: Shelf>(
 {
     let file = table_file(alloc, schema, def.name.text())?;
     let role = FileRole::Table(number);
-    let bytes = read_file(alloc, shelf, role, past_limit(role), file.text())?;
+    let bytes = read_file(alloc, shelf, role, TABLE_LIMIT, file.text())?;
     loaded(alloc, number, def, bytes.as_slice())
 }
 

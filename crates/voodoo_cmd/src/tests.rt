@@ -11,6 +11,8 @@ const QUERY: &str = "SELECT SUM(a) FROM t\n";
 
 const WORDS: &str = "voodoo --db s.sql --mode sql --text q.sql";
 
+const ALGEBRA: &str = "voodoo --db s.sql --mode algebra --text q.sql";
+
 fn names(alloc: Global, words: &str) -> Result<Vec<Name>, AllocError> {
     let mut all = Vec::new(alloc);
     for word in words.split_whitespace() {
@@ -100,6 +102,7 @@ fn a_sum_is_asked_in_any_spelling(rt: HostRuntime) -> Result<(), Fail> {
         ("select sum(a) as total from t x;", "total\n6\n"),
         ("SELECT Sum ( x.A ) -- of all\nFROM T AS X", "c1\n6\n"),
         ("SELECT SUM(t.a) s FROM t", "s\n6\n"),
+        ("SELECT (SUM((a))) FROM t", "c1\n6\n"),
     ] {
         let files = shelf_files(alloc, SCHEMA, "a\n1\n2\n3\n", query)?;
         assert!(rt; gives(alloc, WORDS, files, 0, text, "")?, "{query}");
@@ -119,6 +122,32 @@ fn a_query_is_refused_at_a_byte(rt: HostRuntime) -> Result<(), Fail> {
             "SELECT SUM(a) FROM t WHERE a < DATE '1998-09-31'",
             "voodoo: query: byte 36: DateRange\n",
         ),
+        ("SELECT a FROM\n", "voodoo: query: byte 14: Unexpected\n"),
+        ("SELECT b FROM t", "voodoo: query: byte 7: UnknownColumn\n"),
+        (
+            "SELECT SUM(a) FROM u",
+            "voodoo: query: byte 19: UnknownTable\n",
+        ),
+        (
+            "SELECT SUM(t.a) FROM t x",
+            "voodoo: query: byte 11: UnknownTable\n",
+        ),
+        (
+            "SELECT SUM(a) FROM t, t u",
+            "voodoo: query: byte 11: Ambiguous\n",
+        ),
+        (
+            "SELECT a, SUM(a) FROM t",
+            "voodoo: query: byte 7: NotGrouped\n",
+        ),
+        (
+            "SELECT a / 0 FROM t",
+            "voodoo: query: byte 11: ZeroDivisor\n",
+        ),
+        (
+            "SELECT DISTINCT SUM(a) FROM t",
+            "voodoo: query: byte 7: NotColumns\n",
+        ),
     ] {
         let files = shelf_files(alloc, SCHEMA, "a\n1\n", query)?;
         assert!(rt; gives(alloc, WORDS, files, 7, "", line)?, "{query}");
@@ -131,14 +160,13 @@ fn any_other_query_is_not_yet_answered(rt: HostRuntime) -> Result<(), Fail> {
     let alloc = rt.alloc();
     for query in [
         "SELECT SUM(a) FROM t WHERE a > 1",
-        "SELECT DISTINCT SUM(a) FROM t",
+        "SELECT DISTINCT a FROM t",
         "SELECT SUM(a), SUM(a) FROM t",
-        "SELECT SUM(t.a) FROM t x",
-        "SELECT SUM(a) FROM t, t u",
+        "SELECT SUM(t.a) FROM t, t u",
         "SELECT SUM(a) FROM t GROUP BY a",
         "SELECT SUM(a) FROM t ORDER BY 1",
         "SELECT MAX(a) FROM t",
-        "SELECT SUM(b) FROM t",
+        "SELECT SUM(a + 0) FROM t",
     ] {
         let files = shelf_files(alloc, SCHEMA, "a\n1\n", query)?;
         let line = "voodoo: not yet: text\n";
@@ -181,15 +209,8 @@ fn the_first_refusal_is_the_answer(rt: HostRuntime) -> Result<(), Fail> {
             SCHEMA,
             one,
             "SELECT SUM(b) FROM t\n",
-            13,
-            "voodoo: not yet: text\n",
-        ),
-        (
-            SCHEMA,
-            one,
-            "SELECT SUM(a) FROM u\n",
-            13,
-            "voodoo: not yet: text\n",
+            7,
+            "voodoo: query: byte 11: UnknownColumn\n",
         ),
     ] {
         let files = shelf_files(alloc, schema, table, query)?;
@@ -228,9 +249,9 @@ fn schemas_are_read_whole(rt: HostRuntime) -> Result<(), Fail> {
         (blanks.as_str(), 10, "", "voodoo: limit: schema: 65537\n"),
         (
             "CREATE TABLE t (a CHAR(1) NOT NULL)",
-            13,
+            7,
             "",
-            "voodoo: not yet: text\n",
+            "voodoo: query: byte 7: TypesDiffer\n",
         ),
     ] {
         let files = shelf_files(alloc, schema, "a\n1\n2\n3\n", QUERY)?;
@@ -364,30 +385,115 @@ fn a_program_is_run(rt: HostRuntime) -> Result<(), Fail> {
             "b,3\nslot,.z\n0,\n1,\n2,\na,3\nslot,.a\n0,1\n1,2\n2,3\n",
             "",
         ),
+        // Blanks and comments are free.
         (
-            "t = Load(u)\nPersist(a, t)\n",
-            13,
+            "\t t=Load ( t )# all\r\n\nPersist( a,t)",
+            0,
+            "a,3\nslot,.a\n0,1\n1,2\n2,3\n",
             "",
-            "voodoo: not yet: text\n",
-        ),
-        ("t = Load(t)\n", 13, "", "voodoo: not yet: text\n"),
-        (
-            "t = Load( t)\nPersist(a, t)\n",
-            13,
-            "",
-            "voodoo: not yet: text\n",
         ),
         (
-            "r = Range(4194305, .r, 0, 1, 0, 1)\nPersist(a, r)\n",
-            13,
+            "r = Range(7, .x, 0, 1, 2, 2)\nPersist(out, r)\n",
+            0,
+            "out,7\nslot,.x\n0,0\n1,0\n2,1\n3,1\n4,0\n5,0\n6,1\n",
             "",
-            "voodoo: not yet: text\n",
         ),
         ("", 3, "", "voodoo: cannot read text\n"),
     ] {
         let files = shelf_files(alloc, SCHEMA, "a\n1\n2\n3\n", program)?;
-        let words = "voodoo --db s.sql --mode algebra --text q.sql";
-        assert!(rt; gives(alloc, words, files, code, text, line)?, "{program}");
+        assert!(rt;
+            gives(alloc, ALGEBRA, files, code, text, line)?,
+            "{program}"
+        );
+    }
+    Ok(())
+}
+
+#[test]
+fn a_program_is_refused_at_a_line(rt: HostRuntime) -> Result<(), Fail> {
+    let alloc = rt.alloc();
+    for (program, code, line) in [
+        (
+            "t = Load(t);\nPersist(a, t)\n",
+            9,
+            "voodoo: algebra: line 1: BadToken\n",
+        ),
+        // Comments and empty lines count as lines. A line that stops short is refused itself.
+        (
+            "# a table\n\nt = Load(t\nPersist(a, t)\n",
+            9,
+            "voodoo: algebra: line 3: Unexpected\n",
+        ),
+        (
+            "r = Range(4294967296, .a, 0, 0, 0, 1)\n",
+            9,
+            "voodoo: algebra: line 1: BadNumber\n",
+        ),
+        (
+            "t = Load(t)\nr = Range(t, .a, 0, 0, 0, 0)\n",
+            9,
+            "voodoo: algebra: line 2: NotAdmissible\n",
+        ),
+        (
+            "\nt = Load(u)\nPersist(a, t)\n",
+            9,
+            "voodoo: algebra: line 2: UnknownName\n",
+        ),
+        ("t = Load(t)\n", 9, "voodoo: algebra: line 0: NoPersist\n"),
+        // The check comes before the limit of slots, and the first vector that is too long decides.
+        (
+            "r = Range(4194305, .r, 0, 1, 0, 1)\n",
+            9,
+            "voodoo: algebra: line 0: NoPersist\n",
+        ),
+        (
+            "t = Load(t)\nr = Range(4194305, .r, 0, 1, 0, 1)\nq = Range(4194306, .r, 0, 1, 0, 1)\nPersist(a, t)\n",
+            10,
+            "voodoo: limit: slots: 4194305\n",
+        ),
+    ] {
+        let files = shelf_files(alloc, SCHEMA, "a\n1\n2\n3\n", program)?;
+        assert!(rt; gives(alloc, ALGEBRA, files, code, "", line)?, "{program}");
+    }
+    Ok(())
+}
+
+/// Programs over one column: its values a line each, the program, and what is written.
+const PROGRAMS: [(&str, &str, &str); 5] = [
+    (
+        "a\n1\n0\n1\n1\n0\n1\n",
+        "t = Load(t)\nr = Range(t, .run, 0, 1, 0, 3)\nz = Zip(t, r)\ns = FoldSelect(z, .a, .run, .pos)\nPersist(out, s)\n",
+        "out,6\nslot,.pos\n0,0\n1,2\n2,\n3,3\n4,5\n5,\n",
+    ),
+    (
+        "a\n1\n0\n1\n1\n0\n1\n",
+        "t = Load(t)\nr = Range(t, .run, 0, 1, 0, 3)\nz = Zip(t, r)\ns = FoldSum(z, .a, .run, .n)\nPersist(out, s)\n",
+        "out,6\nslot,.n\n0,2\n1,\n2,\n3,2\n4,\n5,\n",
+    ),
+    // 10, 20 and 30 go to the places 1, 1 and 5 of three: the later writer stays.
+    (
+        "a\n1\n1\n5\n",
+        "t = Load(t)\nv = Range(t, .v, 10, 10, 0, 1)\ns = Scatter(v, 3, t, .a)\nPersist(out, s)\n",
+        "out,3\nslot,.v\n0,\n1,20\n2,\n",
+    ),
+    (
+        "a\n3\n1\n2\n1\n",
+        "t = Load(t)\np = Range(3, .p, 1, 1, 0, 1)\ns = Partition(t, .a, p, .p, .to)\nPersist(out, s)\n",
+        "out,4\nslot,.to\n0,3\n1,0\n2,2\n3,1\n",
+    ),
+    (
+        "a\n7\n0\n",
+        "t = Load(t)\nq = Divide(7, t.a, .q)\nPersist(out, q)\n",
+        "out,2\nslot,.q\n0,1\n1,\n",
+    ),
+];
+
+#[test]
+fn operators_are_run(rt: HostRuntime) -> Result<(), Fail> {
+    let alloc = rt.alloc();
+    for (table, program, text) in PROGRAMS {
+        let files = shelf_files(alloc, SCHEMA, table, program)?;
+        assert!(rt; gives(alloc, ALGEBRA, files, 0, text, "")?, "{program}");
     }
     Ok(())
 }
@@ -400,13 +506,12 @@ fn a_total_that_leaves_128_bits_is_overflow(rt: HostRuntime) -> Result<(), Fail>
     program.push_str(
         ", t.a, .x)\nr = Range(t, .run, 0, 0, 0, 1)\nz = Zip(x, r)\ns = FoldSum(z, .x, .run, .s)\nPersist(out, s)\n",
     )?;
-    let words = "voodoo --db s.sql --mode algebra --text q.sql";
     let over = "voodoo: overflow\n";
     let files = shelf_files(alloc, SCHEMA, "a\n1\n1\n", program.as_str())?;
-    assert!(rt; gives(alloc, words, files, 11, "", over)?);
+    assert!(rt; gives(alloc, ALGEBRA, files, 11, "", over)?);
     let text = "out,2\nslot,.s\n0,170141183460469231731687303715884105727\n1,\n";
     let files = shelf_files(alloc, SCHEMA, "a\n1\n0\n", program.as_str())?;
-    assert!(rt; gives(alloc, words, files, 0, text, "")?);
+    assert!(rt; gives(alloc, ALGEBRA, files, 0, text, "")?);
     Ok(())
 }
 

@@ -23,6 +23,7 @@ use crate::tables_step::read_tables;
 use crate::words::{Mode, request_of};
 use io_edge::{Failed, Name, Shelf, Sink, write_all};
 use row_print::{PrintRefusal, write_results};
+use sql_types::Catalog;
 use std::alloc::Global;
 use table_load::{Database, finish};
 use voodoo_ops::Results;
@@ -85,31 +86,43 @@ fn read_answer<S: Shelf>(alloc: Global, words: &[Name], shelf: &mut S) -> Result
     let Some(request) = request_of(words) else {
         return Err(Status::Usage(UsageKind::Words));
     };
-    let db = read_database(alloc, shelf, request.schema)?;
+    let loaded = read_database(alloc, shelf, request.schema)?;
+    let db = &loaded.database;
     match request.mode {
         Mode::Sql => {
-            let text = query_answer(alloc, shelf, request.text, &db)?;
+            let text = query_answer(alloc, shelf, request.text, &loaded.catalog, db)?;
             Ok(Answer::Rows(text))
         }
         Mode::Algebra => {
-            let runnable = read_runnable(alloc, shelf, request.text, &db)?;
+            let runnable = read_runnable(alloc, shelf, request.text, db)?;
             Ok(Answer::Results(results_of(alloc, &runnable, db.store())?))
         }
     }
 }
 
-/// The database of the schema's tables.
-fn read_database<S: Shelf>(alloc: Global, shelf: &mut S, schema: &str) -> Result<Database, Status>
+/// The schema's catalog, and the database of its tables.
+#[derive(Drop)]
+struct Loaded {
+    catalog: Catalog,
+    database: Database,
+}
+
+/// The schema's catalog, and the database of its tables.
+fn read_database<S: Shelf>(alloc: Global, shelf: &mut S, schema: &str) -> Result<Loaded, Status>
     ensures same_files { S.holds shelf.new ≡ S.holds shelf.old }
     ensures later { S.faults shelf.old ≤ S.faults shelf.new }
-    ensures database { IfSome (S.holds shelf.old) (λ files. Meets (λ d. d) result (database_in files schema.now)) }
-    ensures narrow { IfOk result (λ d. IsNarrowStore d.store) }
+    ensures database { IfSome (S.holds shelf.old) (λ files. Meets (λ l. l.database) result (database_in files schema.now)) }
+    ensures defs { IfOk result (λ l. l.database.defs ≡ l.catalog) }
+    ensures narrow { IfOk result (λ l. IsNarrowStore l.database.store) }
     ensures refuses { IfErr result IsFileRefusal }
     ensures cause { IfErr result (SchemaFaultHasCause (S.holds shelf.old) schema.now (S.faults shelf.old) (S.faults shelf.new)) }
 {
     let catalog = read_catalog(alloc, shelf, schema)?;
     match read_tables(alloc, shelf, schema, catalog.defs()) {
-        Ok(tables) => Ok(finish(alloc, catalog.defs(), tables)?),
+        Ok(tables) => {
+            let database = finish(alloc, catalog.defs(), tables)?;
+            Ok(Loaded { catalog, database })
+        }
         Err(status) => Err(status),
     }
 }

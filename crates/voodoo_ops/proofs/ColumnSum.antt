@@ -1,8 +1,8 @@
 -- The program that adds up one column means its exact total.
-use Rattle.std.proofs.Common.{◌≡◌, ℕ, zero, suc, ◌-◌, ◌*◌, ◌^◌, ◌<◌, ◌≤◌, min, ℤ, pos, negsuc, neg_ℤ, ◌≤ℤ◌, List, [], ◌∷◌, map, take, Bool, true, false, ◌||◌, not, if◌then◌else◌, refl, ap, sym, ◌∙◌, length, get_or, arith, nat_lt, Some, None, Result, Ok, Err}
+use Rattle.std.proofs.Common.{◌≡◌, ℕ, zero, suc, ◌-◌, ◌*◌, ◌^◌, ◌<◌, ◌≤◌, min, ℤ, pos, negsuc, neg_ℤ, ◌≤ℤ◌, List, [], ◌∷◌, ◌++◌, map, take, replicate, Bool, true, false, ◌||◌, not, if◌then◌else◌, refl, ap, sym, ◌∙◌, length, get_or, arith, nat_lt, Some, None, Result, Ok, Err}
 use Rattle.std.specs.Prelude.{FitsSigned, All, codes}
 use Rattle.std.specs.Int.{w64}
-use Rattle.std.specs.List.{list_any, range_with_len}
+use Rattle.std.specs.List.{list_any, flat_map, range_with_len}
 use Rattle.std.proofs.Math.Dec.{eqb-suc-zero}
 use Rattle.std.proofs.lemmas.Int.{ints}
 use Rattle.std.proofs.lemmas.Bool.Decides.{nat_tests}
@@ -12,19 +12,26 @@ use Rattle.std.proofs.lemmas.List.FromFn.{fill_by_all}
 use Rattle.std.proofs.lemmas.Option.{get_or_from_slice_get}
 use Rattle.control_vectors.specs.Slots.{Slot, Cell, fits_128, or_over, cells_of, all_slots, numbers}
 use Rattle.control_vectors.specs.Controls.{control_at, control_list}
-use Rattle.control_vectors.specs.Folds.{total_of, sum_of}
+use Rattle.control_vectors.specs.Folds.{total_of, sum_of, fold_slots}
+use Rattle.control_vectors.specs.declared.FoldKind.TheVariants.{Sum}
 use Rattle.control_vectors.specs.declared.Over.{Over}
 use Rattle.control_vectors.proofs.FoldLaws.{total_of-cons}
 use Rattle.control_vectors.proofs.SlotLaws.{all_slots-cells_of, numbers-map_Some}
 use Rattle.struct_vectors.specs.Columns.{some_slots}
 use Rattle.struct_vectors.proofs.ColumnLaws.{length-some_slots, length-control_slots, slice_get-control_slots}
-use Rattle.voodoo_ops.specs.declared.op.Op.TheVariants.{Persist}
-use Rattle.voodoo_ops.specs.declared.op.FoldArgs.{FoldArgs}
-use Rattle.voodoo_ops.specs.Vectors.{Label, Attribute, Vector, Env, Named, column, column_of, nothing, put, tables}
-use Rattle.voodoo_ops.specs.Runs.{slot_eq, begins, differs, rest_of_run}
-use Rattle.voodoo_ops.specs.Operators.{ranged, zipped, sum_cells, fold_sum}
+use Rattle.programs.specs.declared.op.Op.TheVariants.{Persist}
+use Rattle.programs.specs.declared.op.FoldArgs.{FoldArgs}
+use Rattle.programs.specs.Mentions.{Label}
+use Rattle.programs.specs.Vectors.{Attribute, Vector, Env, Named, column, column_of, nothing, put, tables}
+use Rattle.programs.specs.Outlines.{Outline, no_outline}
+use Rattle.programs.specs.Check.{limit_of}
+use Rattle.slot_folds.specs.Runs.{runs as runs_of, joined}
+use Rattle.slot_folds.specs.Folds.{folded, fold_run}
+use Rattle.voodoo_ops.specs.Attributes.{zipped}
+use Rattle.voodoo_ops.specs.Ranges.{ranged}
+use Rattle.voodoo_ops.specs.Runs.{slot_eq, begins, differs}
+use Rattle.voodoo_ops.specs.Folds.{fold}
 use Rattle.voodoo_ops.specs.Meaning.{after_effect, then_run, run_from, shown, meaning}
-use Rattle.voodoo_ops.specs.Check.{Outline, no_outline, limit_of}
 use Rattle.voodoo_ops.specs.Sums.{statement, zero_control, sum_statements, column_store, total_slots, total_slot, sum_results, first_slot_of, SumLaws}
 
 -- ---- totals of few narrow numbers fit 128 bits
@@ -56,19 +63,32 @@ abbrev one_run : List ℤ → List Bool
 one_run [] = []
 one_run (x ∷ rest) = true ∷ map (λ z. false) rest
 
-rest_of_run-filled : (xs : List ℤ) → rest_of_run (map (λ z. false) xs) (some_slots xs) ≡ some_slots xs
-rest_of_run-filled [] = refl
-rest_of_run-filled (x ∷ xs) = ap (λ (l : List Slot). Some x ∷ l) (rest_of_run-filled xs)
+runs_one : (m : Bool) (x : ℤ) (xs : List ℤ) → runs_of (m ∷ map (λ z. false) xs) (some_slots (x ∷ xs)) ≡ some_slots (x ∷ xs) ∷ []
+runs_one m x [] = refl
+runs_one m x (y ∷ xs) = ap (joined (false ∷ map (λ z. false) xs) (Some x)) (runs_one false y xs)
 
-later_cells : (xs : List ℤ) → sum_cells (map (λ z. false) xs) (some_slots xs) ≡ cells_of (map (λ z. None) xs)
+append_none : (cells : List Cell) → cells ++ [] ≡ cells
+append_none [] = refl
+append_none (c ∷ cells) = ap (λ (l : List Cell). c ∷ l) (append_none cells)
+
+later_cells : (xs : List ℤ) → replicate (length xs) (Ok None) ≡ cells_of (map (λ z. None) xs)
 later_cells [] = refl
 later_cells (x ∷ xs) = ap (λ (l : List Cell). Ok None ∷ l) (later_cells xs)
 
-one_total : (xs : List ℤ) → length xs ≤ 2 ^ 22 → All (FitsSigned w64) xs → sum_cells (one_run xs) (some_slots xs) ≡ cells_of (total_slots xs)
+-- the cells behind the total
+behind : (xs : List ℤ) → replicate (length (some_slots xs)) (Ok None) ≡ cells_of (map (λ z. None) xs)
+behind xs = ap (λ (n : ℕ). let l : List Cell = replicate n (Ok None) in l) (length-some_slots xs) ∙ later_cells xs
+
+one_total : (xs : List ℤ) → length xs ≤ 2 ^ 22 → All (FitsSigned w64) xs → folded Sum (one_run xs) (some_slots xs) ≡ cells_of (total_slots xs)
 one_total [] few h = refl
 one_total (x ∷ xs) few h =
-    let first : sum_of (numbers (Some x ∷ rest_of_run (map (λ z. false) xs) (some_slots xs))) ≡ Ok (Some (total_of (x ∷ xs))) = ap (λ (l : List Slot). sum_of (numbers (Some x ∷ l))) (rest_of_run-filled xs) ∙ ap (λ (l : List ℤ). sum_of (x ∷ l)) (numbers-map_Some xs) ∙ sum_of-narrow x xs few h in
-    ap (λ (c : Cell). c ∷ sum_cells (map (λ z. false) xs) (some_slots xs)) first ∙ ap (λ (l : List Cell). Ok (Some (total_of (x ∷ xs))) ∷ l) (later_cells xs)
+    let first : fold_slots Sum (some_slots (x ∷ xs)) ≡ Ok (Some (total_of (x ∷ xs))) = ap (λ (l : List ℤ). sum_of (x ∷ l)) (numbers-map_Some xs) ∙ sum_of-narrow x xs few h in
+    let less : length (some_slots (x ∷ xs)) - 1 ≡ length (some_slots xs) = omega arith in
+    ap (flat_map (fold_run Sum)) (runs_one true x xs)
+    ∙ append_none (fold_run Sum (some_slots (x ∷ xs)))
+    ∙ ap (λ (c : Cell). c ∷ replicate (length (some_slots (x ∷ xs)) - 1) (Ok None)) first
+    ∙ ap (λ (n : ℕ). let l : List Cell = Ok (Some (total_of (x ∷ xs))) ∷ replicate n (Ok None) in l) less
+    ∙ ap (λ (l : List Cell). Ok (Some (total_of (x ∷ xs))) ∷ l) (behind xs)
 
 -- ---- the zipped vector
 abbrev zeros : ℕ → List Slot
@@ -126,10 +146,10 @@ zipped_is xs =
 abbrev fold_args : FoldArgs
 fold_args = record { a = codes "z"; val = codes ".a"; run = codes ".run"; out = codes ".sum" }
 
-summed : (xs : List ℤ) → length xs ≤ 2 ^ 22 → All (FitsSigned w64) xs → fold_sum (both (length xs) (some_slots xs) (zeros (length xs))) fold_args ≡ Ok (column (codes ".sum") (length xs) (total_slots xs))
+summed : (xs : List ℤ) → length xs ≤ 2 ^ 22 → All (FitsSigned w64) xs → fold Sum (both (length xs) (some_slots xs) (zeros (length xs))) fold_args ≡ Ok (column (codes ".sum") (length xs) (total_slots xs))
 summed xs few h =
     let n = length xs in
-    ap (λ (m : List Bool). column_of (codes ".sum") n (all_slots (sum_cells m (some_slots xs)))) (sym (one_run_is xs (codes ".run")))
+    ap (λ (m : List Bool). column_of (codes ".sum") n (all_slots (folded Sum m (some_slots xs)))) (sym (one_run_is xs (codes ".run")))
     ∙ ap (λ (l : List Cell). column_of (codes ".sum") n (all_slots l)) (one_total xs few h)
     ∙ ap (column_of (codes ".sum") n) (all_slots-cells_of (total_slots xs))
 
@@ -147,8 +167,8 @@ three_made xs = put (put (put nothing (codes "t") (source xs)) (codes "r") (runs
 
 meant_of : (xs : List ℤ) → length xs ≤ 2 ^ 22 → All (FitsSigned w64) xs → meaning (tables (column_store xs)) sum_statements ≡ Ok (sum_results xs)
 meant_of xs few h =
-    last_two (tables (column_store xs)) (three_made xs) (fold_sum (zipped (source xs) (runs xs)) fold_args)
-    ∙ ap (λ (v : Vector). named_out (fold_sum v fold_args)) (zipped_is xs)
+    last_two (tables (column_store xs)) (three_made xs) (fold Sum (zipped (source xs) (runs xs)) fold_args)
+    ∙ ap (λ (v : Vector). named_out (fold Sum v fold_args)) (zipped_is xs)
     ∙ ap named_out (summed xs few h)
 
 first_of_total : (xs : List ℤ) → first_slot_of (sum_results xs) ≡ total_slot xs

@@ -2,10 +2,13 @@
 use Rattle.std.proofs.Common.{◌≡◌, List, [], ◌∷◌, ◌++◌, Bool, true, false, refl, sym, ap, ◌∙◌, Option, Some, None, Result, Ok, Err, if◌then◌else◌}
 use Rattle.std.specs.Str.{bytes_eq}
 use Rattle.control_vectors.specs.declared.Over.{Over}
-use Rattle.voodoo_ops.specs.declared.op.Statement.{Statement}
-use Rattle.voodoo_ops.specs.Vectors.{Label, Vector, Env, put}
-use Rattle.voodoo_ops.specs.Meaning.{Run, effect, after_effect, step, then_run, run_from}
-use Rattle.voodoo_ops.specs.Laws.{Avoids, MeaningLaws}
+use Rattle.programs.specs.declared.op.Statement.{Statement}
+use Rattle.programs.specs.Mentions.{Label}
+use Rattle.programs.specs.Vectors.{Vector, Env, nothing, put}
+use Rattle.programs.specs.Laws.{Avoids, Keeps}
+use Rattle.voodoo_ops.specs.Meaning.{Run, effect, after_effect, step, then_run, run_from, shown, meaning}
+use Rattle.voodoo_ops.specs.Laws.{MeaningLaws}
+use Rattle.voodoo_ops.proofs.Outlined.{outlines_hold}
 
 then_same : (r : Run) (f g : Env → Run) → ((e : Env) → f e ≡ g e) → then_run r f ≡ then_run r g
 then_same (Err e) f g same = refl
@@ -44,12 +47,13 @@ run_from-frame store (s ∷ a) env after m other e =
     more rest (Ok middle) q h =
         rest middle h ∙ effect_frame env middle s.name m (effect store env s.op) other.0 q
 
-pub avoids-append : (m : Label) (a b : List Statement) → Avoids m a → Avoids m b → Avoids m (a ++ b)
-avoids-append m [] b p q = q
-avoids-append m (s ∷ a) b p q = (p.0, avoids-append m a b p.1 q)
+pub runs_whole : (store : Env) (program : List Statement) → Keeps [] program → meaning store program ≡ shown (run_from store program nothing) program
+runs_whole store program h = ap (λ (kept : List Statement). shown (run_from store kept nothing) kept) h.kept
 
 pub meaning_laws : MeaningLaws
 meaning_laws = record {
   composes = run_from-append;
   frame = run_from-frame;
+  whole = runs_whole;
+  outline = outlines_hold;
 }

@@ -2,14 +2,15 @@
 use Rattle.std.proofs.Common.{◌≡◌, ℕ, ◌+◌, ◌<◌, ◌≤◌, List, [], ◌∷◌, ◌++◌, Bool, true, false, refl, ap, sym, ◌∙◌, length, drop, get_or, arith, append_assoc, Ok, Err}
 use Rattle.std.proofs.lemmas.List.{drop_more, drop_all, get_or_default}
 use Rattle.control_vectors.specs.Slots.{over}
-use Rattle.voodoo_ops.specs.declared.op.Op.{Op}
-use Rattle.voodoo_ops.specs.declared.op.Op.TheVariants.{Load, Persist, Range, Zip, Divide, FoldSum}
-use Rattle.voodoo_ops.specs.declared.op.Statement.{Statement}
-use Rattle.voodoo_ops.specs.Vectors.{Label, Env, Named, nothing}
-use Rattle.voodoo_ops.specs.Meaning.{result_of, results, chosen, Run, step, then_run, run_from}
-use Rattle.voodoo_ops.specs.Check.{outlines}
+use Rattle.programs.specs.declared.op.Op.{Op}
+use Rattle.programs.specs.declared.op.Op.TheVariants.{Persist}
+use Rattle.programs.specs.declared.op.Statement.{Statement}
+use Rattle.programs.specs.Mentions.{Label}
+use Rattle.programs.specs.Vectors.{Env, Named, nothing}
+use Rattle.programs.specs.Outlines.{outlines}
+use Rattle.programs.specs.Reaching.{chosen, Chooses}
+use Rattle.voodoo_ops.specs.Meaning.{result_of, results, Run, step, then_run, run_from}
 use Rattle.voodoo_ops.specs.Fits.{Fits, CanShow, CanShowAll, Runnable}
-use Rattle.voodoo_ops.specs.Reaching.{Chooses}
 use Rattle.voodoo_ops.proofs.Ready.{Ready, ready_start, ready_fits, ready_next, ready_skip, Shown, shown_start, shown_next, shown_end}
 
 pub here_is : (statements : List Statement) (i : ℕ) (s : Statement) → i < length statements → s ≡ get_or statements i s → drop i statements ≡ s ∷ drop (i + 1) statements
@@ -87,12 +88,8 @@ going_shows store env marks statements i c h g = shown_end env (chosen marks sta
 
 -- ---- results
 result_of-append : (env : Env) (n : Label) (op : Op) (rest : Named) → result_of env n op rest ≡ result_of env n op [] ++ rest
-result_of-append env n (Load t) rest = refl
 result_of-append env n (Persist a) rest = refl
-result_of-append env n (Range size p control) rest = refl
-result_of-append env n (Zip a b) rest = refl
-result_of-append env n (Divide p) rest = refl
-result_of-append env n (FoldSum f) rest = refl
+result_of-append env n _ rest = refl
 
 -- the results so far, and that those that are left can be shown
 pub record Naming (env : Env) (marks : List Bool) (statements : List Statement) (i : ℕ) (named : Named) : Type 0 where

@@ -3,7 +3,8 @@ use Rattle.std.proofs.Common.{◌≡◌, List, [], ◌∷◌, refl, ap, sym, sub
 use Rattle.std.specs.Prelude.{codes, slice_get, slice_index_or}
 use Rattle.struct_vectors.specs.Columns.{ColumnValue}
 use Rattle.struct_vectors.specs.Vectors.{VectorValue, columns_of}
-use Rattle.voodoo_ops.specs.Vectors.{Label, seen_attributes, seen_all}
+use Rattle.programs.specs.Mentions.{Label}
+use Rattle.programs.specs.Vectors.{seen_attributes, seen_all}
 use Rattle.voodoo_ops.specs.Sums.{first_of, first_slot_of}
 use Rattle.key_paths.specs.Paths.{IsPath}
 

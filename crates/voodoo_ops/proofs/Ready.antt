@@ -6,18 +6,24 @@ use Rattle.std.specs.Str.{bytes_eq}
 use Rattle.std.proofs.lemmas.Bool.{false≢true}
 use Rattle.std.proofs.lemmas.Slice.Eq.{bytes_eq-Decides}
 use Rattle.control_vectors.specs.declared.Over.{Over}
-use Rattle.voodoo_ops.specs.declared.op.Op.{Op}
-use Rattle.voodoo_ops.specs.declared.op.Op.TheVariants.{Load, Persist, Range, Zip, Divide, FoldSum}
-use Rattle.voodoo_ops.specs.declared.op.Statement.{Statement}
-use Rattle.voodoo_ops.specs.declared.op.ProgramKind.{ProgramKind}
-use Rattle.voodoo_ops.specs.declared.op.ProgramKind.TheVariants.{TooManyStatements}
-use Rattle.voodoo_ops.specs.Vectors.{Label, Vector, Env, nothing, put, known}
-use Rattle.voodoo_ops.specs.Meaning.{effect, after_effect, step, mentioned, is_persist, has_name, reach_if, reached, is_reached}
-use Rattle.voodoo_ops.specs.Check.{Outline, Shapes, outlines, outline_of, add_shape, made_outline, Known, Fault, fault, Checked, learn, known_behind, fault_of, first_fault, op_tests, after_fault, then_check, check_from, at_start, shape_of, names_result, limit_from}
+use Rattle.programs.specs.declared.op.Op.{Op}
+use Rattle.programs.specs.declared.op.Op.TheVariants.{Persist}
+use Rattle.programs.specs.declared.op.Statement.{Statement}
+use Rattle.programs.specs.declared.op.ProgramKind.{ProgramKind}
+use Rattle.programs.specs.declared.op.ProgramKind.TheVariants.{TooManyStatements}
+use Rattle.programs.specs.Mentions.{Label, mentioned, is_persist, has_name}
+use Rattle.programs.specs.Vectors.{Vector, Env, nothing, put, known}
+use Rattle.programs.specs.Reaching.{reach_if, reached, is_reached}
+use Rattle.programs.specs.Outlines.{Outline, Shapes, outlines, outline_of, add_shape}
+use Rattle.programs.specs.Made.{made_outline}
+use Rattle.programs.specs.Faults.{first_fault, op_tests}
+use Rattle.programs.specs.Check.{Known, Fault, fault, Checked, learn, known_behind, fault_of, after_fault, then_check, check_from, at_start, shape_of, names_result, limit_from}
+use Rattle.programs.proofs.Marks.{has_name-append}
+use Rattle.programs.proofs.ShapeLaws.{all_short}
+use Rattle.voodoo_ops.specs.Meaning.{effect, after_effect, step}
 use Rattle.voodoo_ops.specs.Fits.{Fits, CanShow, CanShowAll, Runnable}
-use Rattle.voodoo_ops.proofs.Marks.{has_name-append}
-use Rattle.voodoo_ops.proofs.ShapeLaws.{all_short}
-use Rattle.voodoo_ops.proofs.Outlining.{Agree, made_same, tests_same, outline_made, outlines-put}
+use Rattle.voodoo_ops.proofs.Agreeing.{Agree, made_same, tests_same}
+use Rattle.voodoo_ops.proofs.Outlining.{outline_made, outlines-put}
 use Rattle.voodoo_ops.proofs.Fitting.{clear_of}
 
 abbrev pub AllShort : List Outline → Type 0
@@ -60,13 +66,9 @@ grows_none xs ys e = record { more = []; is = e ∙ append_none xs }
 grows_then : (xs ys zs : List Outline) (o : Outline) → ys ≡ xs ++ o ∷ [] → Grows ys zs → Grows xs zs
 grows_then xs ys zs o e g = record { more = o ∷ g.more; is = g.is ∙ ap (λ (l : List Outline). l ++ g.more) e ∙ append_assoc xs (o ∷ []) g.more }
 
-shape_behind : (known : Known) (n : Label) (op : Op) (T V : Shapes) → (known_behind known n op (made_outline T V op)).shape ≡ known.shape ++ made_outline T V op ∷ []
-shape_behind known n (Load t) T V = refl
+pub shape_behind : (known : Known) (n : Label) (op : Op) (T V : Shapes) → (known_behind known n op (made_outline T V op)).shape ≡ known.shape ++ made_outline T V op ∷ []
 shape_behind known n (Persist a) T V = refl
-shape_behind known n (Range size p control) T V = refl
-shape_behind known n (Zip a b) T V = refl
-shape_behind known n (Divide p) T V = refl
-shape_behind known n (FoldSum f) T V = refl
+shape_behind known n _ T V = refl
 
 pub grows : (T : Shapes) (rest : List Statement) (known after : Known) → check_from T rest known ≡ Ok after → Grows known.shape after.shape
 grows T [] known after e = let same : known ≡ after = cc in grows_none known.shape after.shape (ap (λ (k : Known). k.shape) (sym same))
@@ -79,7 +81,7 @@ place_of_end : (xs more : List Outline) (o d : Outline) → (length xs < length 
 place_of_end [] more o d = (omega arith, refl)
 place_of_end (x ∷ xs) more o d = let r = place_of_end xs more o d in (omega (arith, r.0), r.1)
 
-short_one : (xs ys after : List Outline) (o : Outline) → ys ≡ xs ++ o ∷ [] → Grows ys after → AllShort after → o.len ≤ 2 ^ 22
+pub short_one : (xs ys after : List Outline) (o : Outline) → ys ≡ xs ++ o ∷ [] → Grows ys after → AllShort after → o.len ≤ 2 ^ 22
 short_one xs ys after o e g h =
     let is : after ≡ (xs ++ o ∷ []) ++ g.more = g.is ∙ ap (λ (l : List Outline). l ++ g.more) e in
     let p = place_of_end xs g.more o o in
@@ -128,36 +130,20 @@ ready_fits store env s rest r on =
 -- ---- behind one more statement
 
 pub learned : (T : Shapes) (known : Known) (n m : Label) (op : Op) → is_persist op ≡ false → (learn T known n op).vectors m ≡ add_shape known.vectors n (made_outline T known.vectors op) m
-learned T known n m (Load t) e = refl
 learned T known n m (Persist a) e = absurd cc
-learned T known n m (Range size p control) e = refl
-learned T known n m (Zip a b) e = refl
-learned T known n m (Divide p) e = refl
-learned T known n m (FoldSum f) e = refl
+learned T known n m _ e = refl
 
 pub learned_result : (T : Shapes) (known : Known) (n m : Label) (op : Op) → is_persist op ≡ true → (learn T known n op).vectors m ≡ known.vectors m
-learned_result T known n m (Load t) e = absurd cc
 learned_result T known n m (Persist a) e = refl
-learned_result T known n m (Range size p control) e = absurd cc
-learned_result T known n m (Zip a b) e = absurd cc
-learned_result T known n m (Divide p) e = absurd cc
-learned_result T known n m (FoldSum f) e = absurd cc
+learned_result T known n m _ e = absurd cc
 
 pub no_effect : (store env : Env) (op : Op) → effect store env op ≡ None → is_persist op ≡ true
-no_effect store env (Load t) e = absurd cc
 no_effect store env (Persist a) e = refl
-no_effect store env (Range size p control) e = absurd cc
-no_effect store env (Zip a b) e = absurd cc
-no_effect store env (Divide p) e = absurd cc
-no_effect store env (FoldSum f) e = absurd cc
+no_effect store env _ e = absurd cc
 
 pub some_effect : (store env : Env) (op : Op) (r : Result Vector Over) → effect store env op ≡ Some r → is_persist op ≡ false
-some_effect store env (Load t) r e = refl
 some_effect store env (Persist a) r e = absurd cc
-some_effect store env (Range size p control) r e = refl
-some_effect store env (Zip a b) r e = refl
-some_effect store env (Divide p) r e = refl
-some_effect store env (FoldSum f) r e = refl
+some_effect store env _ r e = refl
 
 pub put_agrees : (env : Env) (V : Shapes) (n m : Label) (v : Vector) (o : Outline) → outline_of v ≡ o → outlines env m ≡ V m → outlines (put env n v) m ≡ add_shape V n o m
 put_agrees env V n m v o e h = outlines-put env n v m ∙ by (bytes_eq n m)
@@ -194,7 +180,7 @@ ready_next store env now s rest r on e = go (effect store env s.op) refl e
     go (Some (Err x)) q f = absurd cc
     go (Some (Ok v)) q f =
         let same : put env s.name v ≡ now = cc in
-        let made : outline_of v ≡ made_outline (outlines store) r.known.vectors s.op = outline_made store env s.op (Ok v) v q refl ∙ made_same (outlines store) (outlines env) r.known.vectors s.op (mentions_agree store env s rest r on) in
+        let made : outline_of v ≡ made_outline (outlines store) r.known.vectors s.op = outline_made store env s.op (Ok v) v (ready_fits store env s rest r on).small q refl ∙ made_same (outlines store) (outlines env) r.known.vectors s.op (mentions_agree store env s rest r on) in
         subst (λ (k : Env). Ready store k rest) same (record {
           known = next;
           after = r.after;
@@ -266,12 +252,8 @@ some_put env n m v h = by (bytes_eq n m)
     by false = h
 
 show_put : (env : Env) (n : Label) (v : Vector) (op : Op) → CanShow env op → CanShow (put env n v) op
-show_put env n v (Load t) h = tt
 show_put env n v (Persist a) h = some_put env n a v h
-show_put env n v (Range size p control) h = tt
-show_put env n v (Zip a b) h = tt
-show_put env n v (Divide p) h = tt
-show_put env n v (FoldSum f) h = tt
+show_put env n v _ h = tt
 
 shows_put : (env : Env) (n : Label) (v : Vector) (l : List Statement) → CanShowAll env l → CanShowAll (put env n v) l
 shows_put env n v [] h = tt
@@ -292,12 +274,8 @@ some_shape None e = absurd cc
 some_shape (Some v) e = refl
 
 can_show : (store env : Env) (op : Op) → Fits (outlines store) (outlines env) op → CanShow env op
-can_show store env (Load t) f = tt
 can_show store env (Persist a) f = some_shape (env a) (or_left (is_none (outlines env a)) false (clear_of (outlines store) (outlines env) (Persist a) f.sound).names).0
-can_show store env (Range size p control) f = tt
-can_show store env (Zip a b) f = tt
-can_show store env (Divide p) f = tt
-can_show store env (FoldSum f) g = tt
+can_show store env _ f = tt
 
 show_step : (env now : Env) (n : Label) (op : Op) (o : Option (Result Vector Over)) → after_effect env n o ≡ Ok now → CanShow env op → CanShow now op
 show_step env now n op None e h = let same : env ≡ now = cc in subst (λ (k : Env). CanShow k op) same h

@@ -1,8 +1,10 @@
 -- Where the runs of a vector's attributes begin.
-use Rattle.std.proofs.Common.{◌≡◌, ℕ, zero, suc, ◌+◌, ◌-◌, ◌<◌, ◌≤◌, List, [], ◌∷◌, Bool, true, false, ◌||◌, ◌&&◌, not, if◌then◌else◌, refl, ap, sym, ◌∙◌, length, take, set, get_or, arith, Some, None, inl, inr}
+use Rattle.std.proofs.Common.{◌≡◌, ℕ, zero, suc, ◌+◌, ◌-◌, ◌<◌, ◌≤◌, List, [], ◌∷◌, Bool, true, false, ◌||◌, ◌&&◌, not, if◌then◌else◌, refl, ap, sym, ◌∙◌, length, take, set, get_or, map, arith, Some, None, inl, inr}
 use Rattle.std.proofs.lemmas.Bool.{cases_lt}
 use Rattle.std.specs.Prelude.{slice_get}
-use Rattle.std.specs.List.{list_any}
+use Rattle.std.specs.List.{list_any, range_with_len}
+use Rattle.std.proofs.lemmas.List.FromFn.{fill_by_all}
+use Rattle.std.proofs.Math.Dec.{eqb-suc-zero}
 use Rattle.std.proofs.lemmas.List.{take_more, length-map, get_or-set_other, get_or-set_same}
 use Rattle.std.proofs.lemmas.List.Folds.{list_any-append}
 use Rattle.std.proofs.lemmas.Option.{get_or_from_slice_get}
@@ -10,8 +12,10 @@ use Rattle.control_vectors.specs.Slots.{Slot}
 use Rattle.key_paths.specs.Substructures.{is_at_or_below}
 use Rattle.struct_vectors.specs.Columns.{ColumnValue}
 use Rattle.struct_vectors.specs.Vectors.{paths_of, columns_of, HaveLength}
-use Rattle.voodoo_ops.specs.Vectors.{Label, Attribute, seen_attributes}
-use Rattle.voodoo_ops.specs.Runs.{slot_eq, below, differs, changes_below}
+use Rattle.programs.specs.Mentions.{Label}
+use Rattle.programs.specs.Vectors.{Attribute, seen_attributes}
+use Rattle.voodoo_ops.specs.Attributes.{below}
+use Rattle.voodoo_ops.specs.Runs.{slot_eq, begins, differs, changes_below}
 
 or_false : (b : Bool) → (b || false) ≡ b
 or_false true = refl
@@ -104,3 +108,11 @@ marking_keep old now xs i low m e = record {
   ];
   left = λ k l. m.left k (omega arith);
 }
+
+-- ---- all marks
+pub marks_are : (marks : List Bool) (keys : List Attribute) (n : ℕ) → length marks ≡ n → (0 < length marks → get_or marks 0 false ≡ true) → ((k : ℕ) → 0 < k → k < length marks → get_or marks k false ≡ list_any (λ t. differs t.1 k) keys) → marks ≡ map (begins keys) (range_with_len 0 n)
+marks_are marks keys n each first later = fill_by_all (begins keys) marks n false each at
+  where
+    at : (k : ℕ) → k < n → get_or marks k false ≡ begins keys k
+    at zero h = first (omega arith)
+    at (suc k) h = later (suc k) (omega arith) (omega arith) ∙ sym (ap (λ (b : Bool). b || list_any (λ t. differs t.1 (suc k)) keys) (eqb-suc-zero k))

@@ -1,5 +1,5 @@
 -- The attributes of two vectors as those of one.
-use Rattle.std.proofs.Common.{◌≡◌, ℕ, zero, suc, ◌+◌, ◌^◌, ◌<◌, ◌≤◌, min, true, false, List, [], ◌∷◌, ◌++◌, length, drop, get_or, refl, sym, ap, ◌∙◌, arith, append_assoc}
+use Rattle.std.proofs.Common.{◌≡◌, ℕ, zero, suc, ◌+◌, ◌^◌, ◌<◌, ◌≤◌, min, true, false, List, [], ◌∷◌, ◌++◌, map, length, drop, get_or, refl, sym, ap, ◌∙◌, arith, append_assoc}
 use Rattle.std.specs.Prelude.{All}
 use Rattle.std.proofs.lemmas.List.{length-take, length-map}
 use Rattle.std.proofs.lemmas.List.Elements.{All-nil, All-cons, All-head, All-tail}
@@ -7,15 +7,17 @@ use Rattle.key_paths.specs.Paths.{IsPath}
 use Rattle.key_paths.specs.Substructures.{is_before}
 use Rattle.struct_vectors.specs.Columns.{ColumnValue}
 use Rattle.struct_vectors.specs.Vectors.{VectorValue, vector_of, paths_of, columns_of, IsShaped, IsBelowRoot, HaveLength}
-use Rattle.struct_vectors.proofs.ArrangeLaws.{chain_ascending, chain_pairs_apart}
-use Rattle.voodoo_ops.specs.Vectors.{Label, Attribute, Vector, cut_to, seen, seen_attributes}
-use Rattle.voodoo_ops.specs.Merges.{merged}
-use Rattle.voodoo_ops.specs.Operators.{comes_before, zipped}
-use Rattle.voodoo_ops.specs.Check.{outline_of, path_clash, zipped_outline}
-use Rattle.voodoo_ops.specs.Outlines.{earlier, fronts, front_column, no_attribute}
-use Rattle.voodoo_ops.proofs.Merging.{merged-map, merged-all, merged-length, next_first, next_second, rises_merged, rises_ascending}
-use Rattle.voodoo_ops.proofs.Nesting.{chain_without_clash}
-use Rattle.voodoo_ops.proofs.Seen.{paths-seen, seen-fronts, paths-fronts}
+use Rattle.programs.specs.Mentions.{Label}
+use Rattle.programs.specs.Vectors.{Attribute, Vector, cut_to, seen, seen_attributes}
+use Rattle.programs.specs.Merges.{merged}
+use Rattle.programs.specs.Orders.{Rises}
+use Rattle.programs.specs.Outlines.{outline_of}
+use Rattle.programs.specs.Faults.{path_clash}
+use Rattle.programs.proofs.Merging.{merged-map, merged-all, merged-length, next_first, next_second, rises_merged, rises_ascending}
+use Rattle.voodoo_ops.specs.Attributes.{comes_before, zipped}
+use Rattle.voodoo_ops.specs.Columns.{earlier, fronts, front_column, no_attribute}
+use Rattle.voodoo_ops.proofs.Shapes.{shaped_by}
+use Rattle.voodoo_ops.proofs.Seen.{seen-fronts, paths-fronts}
 
 pub length_fronts : (n : ℕ) (attributes : List (Label × ColumnValue)) → length (fronts n attributes) ≡ length attributes
 length_fronts n attributes = length-map attributes (λ t. (t.0, front_column n t.1))
@@ -75,19 +77,15 @@ fronts_long n m [] h each = All-nil (λ a. length a.1.slots ≡ n)
 fronts_long n m (a ∷ attributes) h each =
     All-cons (λ b. length b.1.slots ≡ n) (a.0, front_column n a.1) (fronts n attributes) (omega (arith, length-take n a.1.slots, All-head (λ b. length b.1.slots ≡ m) a attributes each)) (fronts_long n m attributes h (All-tail (λ b. length b.1.slots ≡ m) a attributes each))
 
-pub both_shaped : (n : ℕ) (a b : VectorValue) → n ≡ min a.length b.length → length (paths_of a.attributes) + length (paths_of b.attributes) < 2 ^ 32 → IsShaped a → IsShaped b → path_clash (zipped_outline (outline_of (seen a)) (outline_of (seen b))) ≡ false → IsShaped (vector_of n (both n a b))
+pub both_shaped : (n : ℕ) (a b : VectorValue) → n ≡ min a.length b.length → length (paths_of a.attributes) + length (paths_of b.attributes) < 2 ^ 32 → IsShaped a → IsShaped b → path_clash (outline_of (zipped (seen a) (seen b))) ≡ false → IsShaped (vector_of n (both n a b))
 both_shaped n a b e few sa sb clear =
+    let is = paths-both n a b in
     let paths : All IsPath (merged is_before (paths_of a.attributes) (paths_of b.attributes)) = merged-all IsPath is_before (paths_of a.attributes) (paths_of b.attributes) sa.paths sb.paths in
     let rises = rises_merged (paths_of a.attributes) (paths_of b.attributes) (rises_ascending (paths_of a.attributes) sa.ascending) (rises_ascending (paths_of b.attributes) sb.ascending) in
-    let clear_of : path_clash (record { len = min a.length b.length; paths = merged is_before (paths_of a.attributes) (paths_of b.attributes) }) ≡ false = rw (paths-seen a.attributes, paths-seen b.attributes) at clear in
-    let chain = chain_without_clash (record { len = min a.length b.length; paths = merged is_before (paths_of a.attributes) (paths_of b.attributes) }) rises paths clear_of in
-    let is = paths-both n a b in
-    record {
-      short = omega (arith, e, sa.short);
-      few = rw is (omega (arith, merged-length is_before (paths_of a.attributes) (paths_of b.attributes)));
-      lengths = merged-all (λ t. length t.1.slots ≡ n) earlier (fronts n a.attributes) (fronts n b.attributes) (fronts_long n a.length a.attributes (omega (arith, e)) sa.lengths) (fronts_long n b.length b.attributes (omega (arith, e)) sb.lengths);
-      paths = rw is paths;
-      below_root = rw is (merged-all IsBelowRoot is_before (paths_of a.attributes) (paths_of b.attributes) sa.below_root sb.below_root);
-      ascending = rw is (chain_ascending _ chain);
-      apart = rw is (chain_pairs_apart _ chain paths);
-    }
+    shaped_by n (both n a b)
+    (omega (arith, e, sa.short))
+    (rw is (omega (arith, merged-length is_before (paths_of a.attributes) (paths_of b.attributes))))
+    (merged-all (λ t. length t.1.slots ≡ n) earlier (fronts n a.attributes) (fronts n b.attributes) (fronts_long n a.length a.attributes (omega (arith, e)) sa.lengths) (fronts_long n b.length b.attributes (omega (arith, e)) sb.lengths))
+    (rw is paths)
+    (rw is rises)
+    (ap (λ (v : Vector). path_clash (outline_of v)) (seen-both n a b e) ∙ clear)

@@ -1,10 +1,13 @@
 -- Operators that may be run: none of their tests fails, and what they make has at most 2^22 places.
 use Rattle.std.specs.Prelude.{◌≡◌, ◌≤◌, ◌^◌, true, is_some, List, [], ◌∷◌, None, Ok}
-use Rattle.voodoo_ops.specs.declared.op.Op.{Op}
-use Rattle.voodoo_ops.specs.declared.op.Op.TheVariants.{Persist}
-use Rattle.voodoo_ops.specs.declared.op.Statement.{Statement}
-use Rattle.voodoo_ops.specs.Vectors.{Env}
-use Rattle.voodoo_ops.specs.Check.{Shapes, Outline, outlines, first_fault, op_tests, made_outline, check, limit_of}
+use Rattle.programs.specs.declared.op.Op.{Op}
+use Rattle.programs.specs.declared.op.Op.TheVariants.{Persist}
+use Rattle.programs.specs.declared.op.Statement.{Statement}
+use Rattle.programs.specs.Vectors.{Env}
+use Rattle.programs.specs.Outlines.{Outline, Shapes, outlines}
+use Rattle.programs.specs.Made.{made_outline}
+use Rattle.programs.specs.Faults.{first_fault, op_tests}
+use Rattle.programs.specs.Check.{check, limit_of}
 
 pub record Fits (tables vectors : Shapes) (op : Op) : Type 0 where
   pub sound : first_fault (op_tests tables vectors op) ≡ None

@@ -1,34 +1,66 @@
 -- What a program means: its reached statements, each by its operator's meaning, in order; then the named results.
-use Rattle.std.specs.Prelude.{ℕ, Bool, true, false, ◌||◌, List, [], ◌∷◌, ◌++◌, Option, Some, None, Result, Ok, Err}
-use Rattle.std.specs.List.{list_any}
-use Rattle.std.specs.Str.{bytes_eq}
+use Rattle.std.specs.Prelude.{ℕ, List, [], ◌∷◌, Option, Some, None, Result, Ok, Err}
+use Rattle.control_vectors.specs.declared.FoldKind.TheVariants as number
 use Rattle.control_vectors.specs.declared.Over.{Over}
-use Rattle.voodoo_ops.specs.declared.op.Size.{Size}
-use Rattle.voodoo_ops.specs.declared.op.Size.TheVariants.{Number, Of}
-use Rattle.voodoo_ops.specs.declared.op.Operand.{Operand}
-use Rattle.voodoo_ops.specs.declared.op.Operand.TheVariants as operand
-use Rattle.voodoo_ops.specs.declared.op.Op.{Op}
-use Rattle.voodoo_ops.specs.declared.op.Op.TheVariants.{Load, Persist, Range, Zip, Divide, FoldSum}
-use Rattle.voodoo_ops.specs.declared.op.Statement.{Statement}
-use Rattle.voodoo_ops.specs.Vectors.{Label, Vector, Env, nothing, put, known, Named}
-use Rattle.voodoo_ops.specs.Operators.{ranged, zipped, pair, divide_slot, fold_sum}
+use Rattle.slot_wise.specs.declared.pairing.PairKind.TheVariants as kind
+use Rattle.programs.specs.declared.op.Size.{Size}
+use Rattle.programs.specs.declared.op.Size.TheVariants.{Number, Of}
+use Rattle.programs.specs.declared.op.Op.{Op}
+use Rattle.programs.specs.declared.op.Op.TheVariants.{Load, Persist, Range, Cross, Zip, Project, Upsert, Gather, Scatter, Bucket, Partition, Materialize, Break, FoldSum, FoldMin, FoldMax, FoldSelect, FoldScan, Order, Add, Subtract, Multiply, Divide, Modulo, BitShift, Greater, Equals, LogicalAnd, LogicalOr, Fill}
+use Rattle.programs.specs.declared.op.Statement.{Statement}
+use Rattle.programs.specs.Mentions.{Label}
+use Rattle.programs.specs.Vectors.{Vector, Env, nothing, put, known, Named}
+use Rattle.programs.specs.Reaching.{reached}
+use Rattle.voodoo_ops.specs.Ranges.{ranged, crossed}
+use Rattle.voodoo_ops.specs.Attributes.{zipped, projected, upserted}
+use Rattle.voodoo_ops.specs.Slotwise.{paired, shifted}
+use Rattle.voodoo_ops.specs.Moves.{gather, scatter, bucket, partition, order}
+use Rattle.voodoo_ops.specs.Folds.{fold, fold_select, fold_scan}
 
 -- ---- statements
 abbrev pub Run : Type 0
 Run = Result Env Over
 
+-- the vector of a name
+abbrev pub at_name : Env → Label → Vector
+at_name env a = known (env a)
+
 abbrev pub size_of : Env → Size → ℕ
 size_of env (Number n) = n
-size_of env (Of a) = (known (env a)).len
+size_of env (Of a) = (at_name env a).len
 
 -- what an operator makes of the vectors by name, over a store of tables; none for a Persist
 abbrev pub effect : Env → Env → Op → Option (Result Vector Over)
-effect store env (Load t) = Some (Ok (known (store t)))
+effect store env (Load t) = Some (Ok (at_name store t))
 effect store env (Persist a) = None
 effect store env (Range size p control) = Some (Ok (ranged (size_of env size) p control))
-effect store env (Zip a b) = Some (Ok (zipped (known (env a)) (known (env b))))
-effect store env (Divide p) = Some (pair divide_slot env p)
-effect store env (FoldSum f) = Some (fold_sum (known (env f.a)) f)
+effect store env (Cross a p b q) = Some (Ok (crossed (at_name env a).len p (at_name env b).len q))
+effect store env (Zip a b) = Some (Ok (zipped (at_name env a) (at_name env b)))
+effect store env (Project a p q) = Some (Ok (projected (at_name env a) p q))
+effect store env (Upsert a p b q) = Some (Ok (upserted (at_name env a) p (at_name env b) q))
+effect store env (Gather a b pos) = Some (Ok (gather (at_name env a) (at_name env b) pos))
+effect store env (Scatter a size b pos) = Some (Ok (scatter (at_name env a) (size_of env size) (at_name env b) pos))
+effect store env (Bucket r) = Some (Ok (bucket (at_name env r.a) (at_name env r.b) r))
+effect store env (Partition r) = Some (Ok (partition (at_name env r.a) (at_name env r.b) r))
+effect store env (Materialize a) = Some (Ok (at_name env a))
+effect store env (Break a) = Some (Ok (at_name env a))
+effect store env (FoldSum f) = Some (fold number.Sum (at_name env f.a) f)
+effect store env (FoldMin f) = Some (fold number.Min (at_name env f.a) f)
+effect store env (FoldMax f) = Some (fold number.Max (at_name env f.a) f)
+effect store env (FoldSelect f) = Some (Ok (fold_select (at_name env f.a) f))
+effect store env (FoldScan f) = Some (fold_scan (at_name env f.a) f)
+effect store env (Order a mark out keys) = Some (Ok (order (at_name env a) mark out keys))
+effect store env (Add p) = Some (paired kind.Add env p)
+effect store env (Subtract p) = Some (paired kind.Subtract env p)
+effect store env (Multiply p) = Some (paired kind.Multiply env p)
+effect store env (Divide p) = Some (paired kind.Divide env p)
+effect store env (Modulo p) = Some (paired kind.Modulo env p)
+effect store env (BitShift x by out) = Some (shifted env x by out)
+effect store env (Greater p) = Some (paired kind.Greater env p)
+effect store env (Equals p) = Some (paired kind.Equals env p)
+effect store env (LogicalAnd p) = Some (paired kind.LogicalAnd env p)
+effect store env (LogicalOr p) = Some (paired kind.LogicalOr env p)
+effect store env (Fill p) = Some (paired kind.Fill env p)
 
 abbrev pub after_effect : Env → Label → Option (Result Vector Over) → Run
 after_effect env n None = Ok env
@@ -47,57 +79,6 @@ then_run (Ok env) next = next env
 abbrev pub run_from : Env → List Statement → Env → Run
 run_from store [] env = Ok env
 run_from store (s ∷ rest) env = then_run (step store env s.name s.op) (run_from store rest)
-
--- ---- the statements that some Persist reaches through the names that they mention
-abbrev pub size_names : Size → List Label
-size_names (Number n) = []
-size_names (Of a) = a ∷ []
-
-abbrev pub operand_names : Operand → List Label
-operand_names (operand.Column a p) = a ∷ []
-operand_names (operand.Number z) = []
-
--- the vectors that a statement mentions
-abbrev pub mentioned : Op → List Label
-mentioned (Load t) = []
-mentioned (Persist a) = a ∷ []
-mentioned (Range size p control) = size_names size
-mentioned (Zip a b) = a ∷ b ∷ []
-mentioned (Divide p) = operand_names p.x ++ operand_names p.y
-mentioned (FoldSum f) = f.a ∷ []
-
-abbrev pub is_persist : Op → Bool
-is_persist (Persist a) = true
-is_persist _ = false
-
-abbrev pub has_name : List Label → Label → Bool
-has_name names n = list_any (λ m. bytes_eq m n) names
-
--- the statements that are kept, and the names that they mention, where the names of `wanted` are mentioned behind them
-pub record Reached : Type 0 where
-  pub names : List Label
-  pub kept : List Statement
-
-abbrev pub reach_if : Bool → Statement → Reached → Reached
-reach_if true s r = record { names = mentioned s.op ++ r.names; kept = s ∷ r.kept }
-reach_if false s r = r
-
-abbrev pub is_reached : List Label → Statement → Bool
-is_reached names s = is_persist s.op || has_name names s.name
-
-abbrev pub reach_one : Statement → Reached → Reached
-reach_one s r = reach_if (is_reached r.names s) s r
-
-abbrev pub reached : List Label → List Statement → Reached
-reached wanted [] = record { names = wanted; kept = [] }
-reached wanted (s ∷ rest) = reach_one s (reached wanted rest)
-
--- the statements that marks choose
-abbrev pub chosen : List Bool → List Statement → List Statement
-chosen [] statements = []
-chosen (m ∷ marks) [] = []
-chosen (true ∷ marks) (s ∷ rest) = s ∷ chosen marks rest
-chosen (false ∷ marks) (s ∷ rest) = chosen marks rest
 
 -- ---- the program
 abbrev pub result_of : Env → Label → Op → Named → Named

@@ -1,19 +1,17 @@
 -- Runs: the longest stretches of neighbours whose tuples are equal (Voodoo, PVLDB 9(14), 2016, section 2.2: controlled folds).
-use Rattle.std.specs.Prelude.{ℕ, ◌-◌, ◌==◌, Bool, true, false, ◌||◌, ◌&&◌, not, List, [], ◌∷◌, map, filter, None, slice_index_or}
+use Rattle.std.specs.Prelude.{ℕ, ◌-◌, ◌==◌, Bool, ◌||◌, ◌&&◌, not, List, map, None, slice_index_or}
 use Rattle.std.specs.Option.{option_eq}
 use Rattle.std.specs.Ordering.{int_eq}
 use Rattle.std.specs.List.{range_with_len, list_any}
 use Rattle.control_vectors.specs.Slots.{Slot}
 use Rattle.key_paths.specs.Substructures.{is_at_or_below}
-use Rattle.voodoo_ops.specs.Vectors.{Label, Attribute, Vector}
+use Rattle.programs.specs.Mentions.{Label}
+use Rattle.programs.specs.Vectors.{Attribute, Vector}
+use Rattle.voodoo_ops.specs.Attributes.{below}
 
 -- an empty slot equals an empty one
 abbrev pub slot_eq : Slot → Slot → Bool
 slot_eq = option_eq int_eq
-
--- the attributes at or below a path
-abbrev pub below : Label → List Attribute → List Attribute
-below p attributes = filter (λ t. is_at_or_below t.0 p) attributes
 
 -- whether a list of slots differs at a place from the place before
 abbrev pub differs : List Slot → ℕ → Bool
@@ -30,10 +28,3 @@ begins keys i = i == 0 || list_any (λ t. differs t.1 i) keys
 -- for each place, whether a run of the tuples at or below a path begins there
 abbrev pub run_marks : Vector → Label → List Bool
 run_marks v run = map (begins (below run v.attributes)) (range_with_len 0 v.len)
-
--- the slots up to the next place where a run begins
-abbrev pub rest_of_run : List Bool → List Slot → List Slot
-rest_of_run [] xs = []
-rest_of_run (true ∷ marks) xs = []
-rest_of_run (false ∷ marks) [] = []
-rest_of_run (false ∷ marks) (x ∷ xs) = x ∷ rest_of_run marks xs

@@ -6,13 +6,15 @@ use Rattle.control_vectors.specs.Controls.{Control, control_of}
 use Rattle.control_vectors.specs.Folds.{total_of}
 use Rattle.struct_vectors.specs.Columns.{some_slots, narrow}
 use Rattle.struct_vectors.specs.Vectors.{VectorValue, vector_of}
-use Rattle.voodoo_ops.specs.declared.op.Size.TheVariants.{Of}
-use Rattle.voodoo_ops.specs.declared.op.Op.{Op}
-use Rattle.voodoo_ops.specs.declared.op.Op.TheVariants.{Load, Persist, Range, Zip, FoldSum}
-use Rattle.voodoo_ops.specs.declared.op.Statement.{Statement}
-use Rattle.voodoo_ops.specs.Vectors.{Label, Attribute, Named, column, tables}
+use Rattle.programs.specs.declared.op.Size.TheVariants.{Of}
+use Rattle.programs.specs.declared.op.Op.{Op}
+use Rattle.programs.specs.declared.op.Op.TheVariants.{Load, Persist, Range, Zip, FoldSum}
+use Rattle.programs.specs.declared.op.Statement.{Statement}
+use Rattle.programs.specs.Mentions.{Label}
+use Rattle.programs.specs.Vectors.{Attribute, Named, column, tables}
 use Rattle.voodoo_ops.specs.Meaning.{meaning}
-use Rattle.voodoo_ops.specs.Check.{Outline, outlines, check, limit_of}
+use Rattle.programs.specs.Outlines.{Outline, outlines}
+use Rattle.programs.specs.Check.{check, limit_of}
 
 -- `t = Load(t)`, `r = Range(t, .run, 0, 0, 0, 1)`, `z = Zip(t, r)`, `s = FoldSum(z, .a, .run, .sum)`, `Persist(out, s)`
 abbrev pub statement : Label → Op → Statement

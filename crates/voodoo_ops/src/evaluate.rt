@@ -1,31 +1,35 @@
 //! The plain evaluation: the reached statements, operator by operator, in order.
 
-ghost use Rattle.std.specs.Prelude.{◌≡◌, ◌++◌, [], ◌≤◌, ◌^◌, true, false, is_some, length, IfOk, OnOk};
-ghost use Rattle.key_paths.specs.Substructures.{is_root};
-ghost use Rattle.voodoo_ops.specs.Check.{outline_of, outlines, path_clash, zipped_outline};
+ghost use Rattle.std.specs.Prelude.{◌≡◌, ◌++◌, [], true, false, is_some, length, IfOk, OnOk, Ok};
+ghost use Rattle.slot_columns.specs.Stops.{Exact};
+ghost use Rattle.programs.specs.Mentions.{is_persist};
+ghost use Rattle.programs.specs.Outlines.{outlines};
+ghost use Rattle.programs.specs.Reaching.{Chooses, chosen};
+ghost use Rattle.programs.specs.Vectors.{known, nothing, seen, seen_all, tables};
+ghost use Rattle.voodoo_ops.specs.Envs.{env_in};
 ghost use Rattle.voodoo_ops.specs.Fits.{CanShow, CanShowAll, Fits, Runnable};
-ghost use Rattle.voodoo_ops.specs.Meaning.{chosen, effect, meaning, result_of, results, run_from, size_of, step};
-ghost use Rattle.voodoo_ops.specs.Operators.{fold_sum, ranged, zipped};
-ghost use Rattle.voodoo_ops.specs.Reading.{HasOperand};
-ghost use Rattle.voodoo_ops.specs.declared.op.Operand.{Operand};
-ghost use Rattle.voodoo_ops.specs.Outlines.{env_in};
-ghost use Rattle.voodoo_ops.specs.Reaching.{Chooses};
-ghost use Rattle.voodoo_ops.specs.Stops.{Exact, Makes};
-ghost use Rattle.voodoo_ops.specs.Vectors.{known, nothing, seen, seen_all, tables};
+ghost use Rattle.voodoo_ops.specs.Meaning.{effect, meaning, result_of, results, run_from, step};
+ghost use Rattle.voodoo_ops.specs.Stops.{Makes};
 
-use crate::divide::divide;
-use crate::fold_sum::sum_runs;
+use crate::NoMemory;
+use crate::attributes::{project_made, upsert_made};
+use crate::folds::{fold_made, scan_made, select_made};
 use crate::made::Made;
-use crate::op::Stop;
-use crate::reach::reached_marks;
+use crate::moves::{bucket_made, gather_made, partition_made, scatter_made};
+use crate::ranges::{cross_made, range_made};
+use crate::reading::vector;
 use crate::results::Results;
-use crate::zip::zip;
-use crate::{FoldArgs, NoMemory, Op, Program, Size, Statement};
-use control_vectors::ControlVector;
+use crate::slotwise::{pair_made, shift_made};
+use crate::sorting::order_made;
+use crate::zip::zip_made;
+use control_vectors::FoldKind;
 use io_edge::Name;
-use key_paths::Path;
+use programs::reach::reached_marks;
+use programs::{Op, Program, Statement};
+use slot_columns::Stop;
+use slot_wise::PairKind;
 use std::alloc::Global;
-use struct_vectors::{Column, Store, StructVector};
+use struct_vectors::{Store, StructVector};
 
 /// The named results of a program over a store.
 pub(crate) fn evaluate(alloc: Global, p: &Program, store: &Store) -> Result<Results, Stop>
@@ -64,92 +68,70 @@ fn run_one(alloc: Global, store: &Store, made: Made, s: &Statement) -> Result<Ma
     requires { Fits (outlines (tables store.now)) (outlines (env_in made)) s.now.op }
     ensures { Exact env_in result (step (tables store.now) (env_in made) s.now.name s.now.op) }
 {
-    match make(alloc, store, &made, &s.op)? {
-        Some(v) => Ok(made.with(alloc, &s.name, v)?),
-        None => Ok(made),
+    if s.op.persists() {
+        return Ok(made);
     }
+    let v = make(alloc, store, &made, &s.op)?;
+    Ok(made.with(alloc, &s.name, v)?)
 }
 
-/// What an operator makes of the vectors by name: nothing for a Persist.
-fn make(alloc: Global, store: &Store, made: &Made, op: &Op) -> Result<Option<StructVector>, Stop>
-    requires { Fits (outlines (tables store.now)) (outlines (env_in made.now)) op.now }
+/// The vector that an operator makes of the vectors by name.
+fn make(alloc: Global, store: &Store, made: &Made, op: &Op) -> Result<StructVector, Stop>
+    requires fits { Fits (outlines (tables store.now)) (outlines (env_in made.now)) op.now }
+    requires makes { is_persist op.now ≡ false }
     ensures { Makes result (effect (tables store.now) (env_in made.now) op.now) }
 {
     match op {
-        Op::Load { table } => Ok(Some(load(alloc, store, table)?)),
-        Op::Persist { .. } => Ok(None),
-        Op::Range { size, out, control } => {
-            let len = size_in(made, size);
-            Ok(Some(range(alloc, len, out, *control)?))
-        }
-        Op::Zip { a, b } => Ok(Some(zip_made(alloc, made, a, b)?)),
-        Op::Divide(args) => Ok(Some(divide(alloc, made, args)?)),
-        Op::FoldSum(args) => Ok(Some(fold_made(alloc, made, args)?)),
+        Op::Load { table } => load_made(alloc, store, table),
+        Op::Persist { .. } => unreachable!(),
+        Op::Range { size, out, control } => range_made(alloc, made, size, out, *control),
+        Op::Cross { a, p, b, q } => cross_made(alloc, made, a, p, b, q),
+        Op::Zip { a, b } => zip_made(alloc, made, a, b),
+        Op::Project { a, p, q } => project_made(alloc, made, a, p, q),
+        Op::Upsert { a, p, b, q } => upsert_made(alloc, made, a, p, b, q),
+        Op::Gather { a, b, pos } => gather_made(alloc, made, a, b, pos),
+        Op::Scatter { a, size, b, pos } => scatter_made(alloc, made, a, size, b, pos),
+        Op::Bucket(args) => bucket_made(alloc, made, args),
+        Op::Partition(args) => partition_made(alloc, made, args),
+        Op::Materialize { a } => copy_made(alloc, made, a),
+        Op::Break { a } => copy_made(alloc, made, a),
+        Op::FoldSum(args) => fold_made(alloc, made, FoldKind::Sum, args),
+        Op::FoldMin(args) => fold_made(alloc, made, FoldKind::Min, args),
+        Op::FoldMax(args) => fold_made(alloc, made, FoldKind::Max, args),
+        Op::FoldSelect(args) => select_made(alloc, made, args),
+        Op::FoldScan(args) => scan_made(alloc, made, args),
+        Op::Order { a, mark, out, keys } => order_made(alloc, made, a, mark, out, keys),
+        Op::Add(args) => pair_made(alloc, made, PairKind::Add, args),
+        Op::Subtract(args) => pair_made(alloc, made, PairKind::Subtract, args),
+        Op::Multiply(args) => pair_made(alloc, made, PairKind::Multiply, args),
+        Op::Divide(args) => pair_made(alloc, made, PairKind::Divide, args),
+        Op::Modulo(args) => pair_made(alloc, made, PairKind::Modulo, args),
+        Op::BitShift { x, by, out } => shift_made(alloc, made, x, *by, out),
+        Op::Greater(args) => pair_made(alloc, made, PairKind::Greater, args),
+        Op::Equals(args) => pair_made(alloc, made, PairKind::Equals, args),
+        Op::LogicalAnd(args) => pair_made(alloc, made, PairKind::LogicalAnd, args),
+        Op::LogicalOr(args) => pair_made(alloc, made, PairKind::LogicalOr, args),
+        Op::Fill(args) => pair_made(alloc, made, PairKind::Fill, args),
     }
 }
 
 /// A copy of a table.
-fn load(alloc: Global, store: &Store, table: &Name) -> Result<StructVector, NoMemory>
+fn load_made(alloc: Global, store: &Store, table: &Name) -> Result<StructVector, Stop>
     requires { is_some (tables store.now table.now) ≡ true }
-    ensures { IfOk result (λ v. seen v ≡ known (tables store.now table.now)) }
+    ensures { Exact seen result (Ok (known (tables store.now table.now))) }
 {
     match store.table(table) {
-        Some(v) => v.copied(alloc),
+        Some(v) => Ok(v.copied(alloc)?),
         None => unreachable!(),
     }
 }
 
-fn size_in(made: &Made, size: &Size) -> u32
-    ensures { result ≡ size_of (env_in made.now) size.now }
+/// A copy of the vector of a name.
+fn copy_made(alloc: Global, made: &Made, a: &Name) -> Result<StructVector, Stop>
+    requires { is_some ((env_in made.now) a.now) ≡ true }
+    ensures { Exact seen result (Ok (known ((env_in made.now) a.now))) }
 {
-    match size {
-        Size::Number(n) => *n,
-        Size::Of(a) => match made.vector(a) {
-            Some(v) => v.len(),
-            None => 0,
-        },
-    }
-}
-
-/// The values of a control vector, kept as its four numbers.
-fn range(
-    alloc: Global,
-    len: u32,
-    out: &Path,
-    control: ControlVector,
-) -> Result<StructVector, NoMemory>
-    requires short { len ≤ 2 ^ 22 }
-    requires named { is_root out.now ≡ false }
-    ensures { IfOk result (λ v. seen v ≡ ranged len out.now control) }
-{
-    let v = StructVector::of_column(alloc, out.copied(alloc)?, Column::control(control, len))?;
-    Ok(v)
-}
-
-fn zip_made(alloc: Global, made: &Made, a: &Name, b: &Name) -> Result<StructVector, NoMemory>
-    requires a { is_some ((env_in made.now) a.now) ≡ true }
-    requires b { is_some ((env_in made.now) b.now) ≡ true }
-    requires clear { path_clash (zipped_outline (outline_of (known ((env_in made.now) a.now))) (outline_of (known ((env_in made.now) b.now)))) ≡ false }
-    ensures { IfOk result (λ v. seen v ≡ zipped (known ((env_in made.now) a.now)) (known ((env_in made.now) b.now))) }
-{
-    let Some(first) = made.vector(a) else {
-        unreachable!()
-    };
-    let Some(second) = made.vector(b) else {
-        unreachable!()
-    };
-    zip(alloc, first, second)
-}
-
-fn fold_made(alloc: Global, made: &Made, args: &FoldArgs) -> Result<StructVector, Stop>
-    requires value { HasOperand (env_in made.now) (Operand.Column args.now.a args.now.val) }
-    requires named { is_root args.now.out ≡ false }
-    ensures { Exact seen result (fold_sum (known ((env_in made.now) args.now.a)) args.now) }
-{
-    match made.vector(&args.a) {
-        Some(v) => sum_runs(alloc, v, args),
-        None => unreachable!(),
-    }
+    Ok(vector(made, a).copied(alloc)?)
 }
 
 /// The results that the marked statements name, in order.
@@ -183,19 +165,8 @@ fn name_result(
     ensures { OnOk result (seen_all named.new.items ≡ seen_all named.old.items ++ result_of (env_in made.now) s.now.name s.now.op []) }
 {
     if let Op::Persist { a } = &s.op {
-        let v = shown(alloc, made, a)?;
+        let v = vector(made, a).copied(alloc)?;
         named.push((s.name.copied(alloc)?, v))?;
     }
     Ok(())
-}
-
-/// A copy of the vector of a name.
-fn shown(alloc: Global, made: &Made, a: &Name) -> Result<StructVector, NoMemory>
-    requires { is_some ((env_in made.now) a.now) ≡ true }
-    ensures { IfOk result (λ v. seen v ≡ known ((env_in made.now) a.now)) }
-{
-    match made.vector(a) {
-        Some(v) => v.copied(alloc),
-        None => unreachable!(),
-    }
 }

@@ -1,11 +1,11 @@
 //! The vectors that a run has made, by name.
 
 ghost use Rattle.std.specs.Prelude.{length};
-ghost use Rattle.voodoo_ops.specs.Indexes.{AreWithin, places_of};
+ghost use Rattle.programs.specs.Indexes.{AreWithin, places_of};
 
 use crate::NoMemory;
-use crate::index::Index;
 use io_edge::Name;
+use programs::index::Index;
 use std::alloc::Global;
 use struct_vectors::StructVector;
 
@@ -20,8 +20,8 @@ pub struct Made {
 impl Made {
     ghost use Rattle.std.specs.Prelude.{◌≡◌, IfOk};
     ghost use Rattle.std.specs.Option.{option_copied, option_map};
-    ghost use Rattle.voodoo_ops.specs.Outlines.{env_in};
-    ghost use Rattle.voodoo_ops.specs.Vectors.{nothing, put, seen};
+    ghost use Rattle.voodoo_ops.specs.Envs.{env_in};
+    ghost use Rattle.programs.specs.Vectors.{nothing, put, seen};
 
     /// No vectors.
     pub fn nothing(alloc: Global) -> Made

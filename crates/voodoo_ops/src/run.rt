@@ -1,14 +1,16 @@
 //! The plain run of a program.
 
 ghost use Rattle.std.specs.Prelude.{◌≡◌, Ok, None};
-ghost use Rattle.voodoo_ops.specs.Check.{check, limit_of, outlines};
+ghost use Rattle.programs.specs.Check.{check, limit_of};
+ghost use Rattle.programs.specs.Outlines.{outlines};
+ghost use Rattle.programs.specs.Vectors.{tables};
 ghost use Rattle.voodoo_ops.specs.Meaning.{meaning};
 ghost use Rattle.voodoo_ops.specs.Stops.{Runs};
-ghost use Rattle.voodoo_ops.specs.Vectors.{tables};
 
+use crate::Results;
 use crate::evaluate::evaluate;
-use crate::op::Stop;
-use crate::{Program, Results, Shape};
+use programs::{Program, Shape};
+use slot_columns::Stop;
 use std::alloc::{AllocError, Global};
 use struct_vectors::Store;
 use thiserror::Error;

@@ -2,11 +2,11 @@
 
 ghost use Rattle.std.specs.Prelude.{◌≡◌, ◌||◌, ◌<◌, ℕ, [], length, false, replicate, slice_index_or, IfOk};
 ghost use Rattle.voodoo_ops.specs.Runs.{changes_below, differs, run_marks};
-ghost use Rattle.voodoo_ops.specs.Vectors.{seen, seen_attributes};
+ghost use Rattle.programs.specs.Vectors.{seen, seen_attributes};
 
 use crate::NoMemory;
-use crate::reach::no_marks;
 use key_paths::Path;
+use programs::reach::no_marks;
 use std::alloc::Global;
 use struct_vectors::{Column, StructVector};
 

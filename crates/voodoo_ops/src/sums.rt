@@ -3,18 +3,18 @@
 ghost use Rattle.std.specs.Prelude.{◌≡◌, ◌≤◌, ◌^◌, ◌<◌, ◌++◌, [], ◌∷◌, IfOk, IfErr, IsOk, OnOk, All, FitsSigned, Ok, None, length, codes, slice_index_or};
 ghost use Rattle.std.specs.Int.{w64};
 ghost use Rattle.key_paths.specs.Paths.{IsPath};
-ghost use Rattle.voodoo_ops.specs.Check.{check, outlines};
+ghost use Rattle.programs.specs.Check.{check};
+ghost use Rattle.programs.specs.Outlines.{outlines};
+ghost use Rattle.programs.specs.Vectors.{seen_all, tables};
 ghost use Rattle.voodoo_ops.specs.Sums.{column_store, first_slot_of, statement, sum_statements, total_slot, zero_control};
-ghost use Rattle.voodoo_ops.specs.Vectors.{seen_all, tables};
 
 use crate::laws::sum_laws;
 use crate::run::{RunRefusal, run_plain};
-use crate::{
-    FoldArgs, NoMemory, Op, Program, ProgramRefusal, Results, Shape, Size, Slot, Statement,
-};
-use control_vectors::ControlVector;
+use crate::{NoMemory, Results};
+use control_vectors::{ControlVector, Slot};
 use io_edge::Name;
 use key_paths::{Path, PathRefusal};
+use programs::{FoldArgs, Op, Program, ProgramRefusal, Shape, Size, Statement};
 use std::alloc::{AllocError, Global};
 use struct_vectors::{Column, Store, StructVector};
 
@@ -51,21 +51,18 @@ pub fn sum_program(alloc: Global) -> Result<Program, NoMemory>
     ensures { IfOk result (λ p. p ≡ sum_statements) }
 {
     let mut statements = Vec::with_capacity(alloc, 5)?;
-    add(alloc, &mut statements, "t", load(alloc)?)?;
-    add(alloc, &mut statements, "r", range(alloc)?)?;
-    add(alloc, &mut statements, "z", zip(alloc)?)?;
-    add(alloc, &mut statements, "s", fold(alloc)?)?;
-    add(alloc, &mut statements, "out", persist(alloc)?)?;
+    add(&mut statements, Name::of(alloc, "t")?, load(alloc)?)?;
+    add(&mut statements, Name::of(alloc, "r")?, range(alloc)?)?;
+    add(&mut statements, Name::of(alloc, "z")?, zip(alloc)?)?;
+    add(&mut statements, Name::of(alloc, "s")?, fold(alloc)?)?;
+    add(&mut statements, Name::of(alloc, "out")?, persist(alloc)?)?;
     Ok(Program::new(statements))
 }
 
-fn add(alloc: Global, to: &mut Vec<Statement>, name: &str, op: Op) -> Result<(), NoMemory>
-    ensures { OnOk result (to.new.items ≡ to.old.items ++ statement name.now op ∷ []) }
+fn add(to: &mut Vec<Statement>, name: Name, op: Op) -> Result<(), NoMemory>
+    ensures { OnOk result (to.new.items ≡ to.old.items ++ statement name op ∷ []) }
 {
-    to.push(Statement {
-        name: Name::of(alloc, name)?,
-        op,
-    })?;
+    to.push(Statement { name, op })?;
     Ok(())
 }
 

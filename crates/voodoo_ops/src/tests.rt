@@ -1,13 +1,17 @@
-//! Worked programs: what they give, and why others are refused.
+//! Worked programs over small stores: what they give.
 
-use crate::sums::{column_total, first_slot};
+use crate::sums::column_total;
 use crate::*;
-use control_vectors::ControlVector;
+use control_vectors::{ControlVector, Slot};
 use io_edge::Name;
 use key_paths::Path;
+use programs::{
+    FoldArgs, Op, Operand, OrderKeys, OrderPath, PairArgs, Program, RankArgs, Size, Statement,
+};
+use slot_columns::slots_column;
 use std::alloc::{AllocError, Global};
 use std::test::Fail;
-use struct_vectors::{Column, Store, StructVector};
+use struct_vectors::{Store, StructVector};
 
 fn name(alloc: Global, text: &str) -> Result<Name, AllocError> {
     Ok(Name::of(alloc, text)?)
@@ -23,88 +27,177 @@ fn path(alloc: Global, text: &str) -> Result<Path, AllocError> {
     }
 }
 
-/// The column of these numbers.
-fn column(alloc: Global, numbers: &[i128]) -> Result<Column, AllocError> {
-    if numbers.len() > 100 {
-        return Err(AllocError);
-    }
-    Ok(Column::wide(Vec::from_slice(alloc, numbers)?))
-}
-
-/// The store of the table `t` with the column `.a`.
-fn store(alloc: Global, numbers: &[i128]) -> Result<Store, AllocError> {
+/// The store of the table `t` with the attribute `.a`.
+fn store(alloc: Global, slots: &[Slot]) -> Result<Store, AllocError> {
     let p = path(alloc, ".a")?;
-    if p.is_root() {
+    if p.is_root() || slots.len() > 100 {
         return Err(AllocError);
     }
-    let v = StructVector::of_column(alloc, p, column(alloc, numbers)?)?;
+    let v = StructVector::of_column(alloc, p, slots_column(alloc, slots)?)?;
     let mut vectors = Vec::new(alloc);
     vectors.push((name(alloc, "t")?, v))?;
     Ok(Store::new(vectors))
 }
 
-fn load(alloc: Global, table: &str) -> Result<Op, AllocError> {
-    let table = name(alloc, table)?;
-    Ok(Op::Load { table })
+fn add(to: &mut Vec<Statement>, name: Name, op: Op) -> Result<(), AllocError> {
+    to.push(Statement { name, op })?;
+    Ok(())
 }
 
-fn persist(alloc: Global, a: &str) -> Result<Op, AllocError> {
-    let a = name(alloc, a)?;
-    Ok(Op::Persist { a })
+/// `t = Load(t)`.
+fn load(alloc: Global) -> Result<Vec<Statement>, AllocError> {
+    let mut to = Vec::new(alloc);
+    let name_of_statement = name(alloc, "t")?;
+    let table = name(alloc, "t")?;
+    add(&mut to, name_of_statement, Op::Load { table })?;
+    Ok(to)
 }
 
-fn zip(alloc: Global, a: &str, b: &str) -> Result<Op, AllocError> {
-    let a = name(alloc, a)?;
-    let b = name(alloc, b)?;
-    Ok(Op::Zip { a, b })
-}
-
-fn zeros(alloc: Global, size: Size, out: &str) -> Result<Op, AllocError> {
-    let out = path(alloc, out)?;
-    match ControlVector::new(0, 0, 0, 1) {
+/// `Range(size, out, start, step, 0, divisor)`.
+fn range(size: Size, out: Path, start: i64, step: u64, divisor: u64) -> Result<Op, AllocError> {
+    match ControlVector::new(start, step, 0, divisor) {
         Some(control) => Ok(Op::Range { size, out, control }),
         None => Err(AllocError),
     }
 }
 
-/// `Divide(a.p, y, .h)`.
-fn divide(alloc: Global, a: &str, p: &str, y: i128) -> Result<Op, AllocError> {
-    let x = Operand::Column(name(alloc, a)?, path(alloc, p)?);
-    let y = Operand::Number(y);
-    let out = path(alloc, ".h")?;
-    Ok(Op::Divide(PairArgs { x, y, out }))
+/// `t.a` beside a number.
+fn pair(alloc: Global, y: i128) -> Result<PairArgs, AllocError> {
+    Ok(PairArgs {
+        x: Operand::Column(name(alloc, "t")?, path(alloc, ".a")?),
+        y: Operand::Number(y),
+        out: path(alloc, ".o")?,
+    })
 }
 
-/// `FoldSum(z, .h, .run, .s)`.
-fn fold(alloc: Global) -> Result<Op, AllocError> {
-    let a = name(alloc, "z")?;
-    let val = path(alloc, ".h")?;
-    let run = path(alloc, ".run")?;
-    let out = path(alloc, ".s")?;
-    Ok(Op::FoldSum(FoldArgs { a, val, run, out }))
+/// The values `z.a` in the runs of `z.run`.
+fn fold(alloc: Global) -> Result<FoldArgs, AllocError> {
+    Ok(FoldArgs {
+        a: name(alloc, "z")?,
+        val: path(alloc, ".a")?,
+        run: path(alloc, ".run")?,
+        out: path(alloc, ".o")?,
+    })
 }
 
-fn add(alloc: Global, to: &mut Vec<Statement>, n: &str, op: Op) -> Result<(), AllocError> {
-    let name = name(alloc, n)?;
-    to.push(Statement { name, op })?;
-    Ok(())
+/// The keys `t.a` beside the pivots `r.v`.
+fn rank(alloc: Global) -> Result<RankArgs, AllocError> {
+    Ok(RankArgs {
+        a: name(alloc, "t")?,
+        key: path(alloc, ".a")?,
+        b: name(alloc, "r")?,
+        pivot: path(alloc, ".v")?,
+        out: path(alloc, ".o")?,
+    })
 }
 
-/// `t = Load(t)`, `h = Divide(t.a, y, .h)`, `r = Range(t, .run, 0, 0, 0, 1)`, `z = Zip(h, r)`,
-/// `s = FoldSum(z, .h, .run, .s)`.
-fn totals(alloc: Global, y: i128) -> Result<Vec<Statement>, AllocError> {
-    let mut to = Vec::new(alloc);
-    add(alloc, &mut to, "t", load(alloc, "t")?)?;
-    add(alloc, &mut to, "h", divide(alloc, "t", ".a", y)?)?;
-    add(
-        alloc,
-        &mut to,
-        "r",
-        zeros(alloc, Size::Of(name(alloc, "t")?), ".run")?,
-    )?;
-    add(alloc, &mut to, "z", zip(alloc, "h", "r")?)?;
-    add(alloc, &mut to, "s", fold(alloc)?)?;
-    Ok(to)
+/// `Order(z, .run, .o, .a)`, from the least key up or from the greatest down.
+fn order(alloc: Global, descending: bool) -> Result<Op, AllocError> {
+    let mut keys = Vec::new(alloc);
+    keys.push(OrderPath {
+        path: path(alloc, ".a")?,
+        descending,
+    })?;
+    Ok(Op::Order {
+        a: name(alloc, "z")?,
+        mark: path(alloc, ".run")?,
+        out: path(alloc, ".o")?,
+        keys: OrderKeys::new(keys),
+    })
+}
+
+/// The operators of these tests.
+#[derive(Clone, Copy)]
+enum Case {
+    Select,
+    Sum,
+    Min,
+    Max,
+    Scan,
+    Up,
+    Down,
+    Scatter,
+    Gather,
+    Bucket,
+    Partition,
+    Cross,
+    Upsert,
+    Copy,
+    Shift,
+    Add(i128),
+    Subtract(i128),
+    Multiply(i128),
+    Divide(i128),
+    Modulo(i128),
+    Greater(i128),
+    Equals(i128),
+    And(i128),
+    Or(i128),
+    Fill(i128),
+}
+
+/// An operator over whole vectors: of `t` with `.a`, `r` with `.v`, and `z` with `.a` and `.run`.
+fn whole(alloc: Global, case: Case) -> Result<Op, AllocError> {
+    match case {
+        Case::Select => Ok(Op::FoldSelect(fold(alloc)?)),
+        Case::Sum => Ok(Op::FoldSum(fold(alloc)?)),
+        Case::Min => Ok(Op::FoldMin(fold(alloc)?)),
+        Case::Max => Ok(Op::FoldMax(fold(alloc)?)),
+        Case::Scan => Ok(Op::FoldScan(fold(alloc)?)),
+        Case::Up => order(alloc, false),
+        Case::Down => order(alloc, true),
+        Case::Scatter => Ok(Op::Scatter {
+            a: name(alloc, "r")?,
+            size: Size::Number(3),
+            b: name(alloc, "t")?,
+            pos: path(alloc, ".a")?,
+        }),
+        Case::Gather => Ok(Op::Gather {
+            a: name(alloc, "r")?,
+            b: name(alloc, "t")?,
+            pos: path(alloc, ".a")?,
+        }),
+        Case::Bucket => Ok(Op::Bucket(rank(alloc)?)),
+        Case::Partition => Ok(Op::Partition(rank(alloc)?)),
+        Case::Cross => Ok(Op::Cross {
+            a: name(alloc, "t")?,
+            p: path(alloc, ".p")?,
+            b: name(alloc, "r")?,
+            q: path(alloc, ".q")?,
+        }),
+        Case::Upsert => Ok(Op::Upsert {
+            a: name(alloc, "r")?,
+            p: path(alloc, ".v")?,
+            b: name(alloc, "t")?,
+            q: path(alloc, ".a")?,
+        }),
+        Case::Copy => Ok(Op::Materialize {
+            a: name(alloc, "t")?,
+        }),
+        _ => slotwise(alloc, case),
+    }
+}
+
+/// An operator that works slot by slot, on `t.a` and a number.
+fn slotwise(alloc: Global, case: Case) -> Result<Op, AllocError> {
+    match case {
+        Case::Shift => Ok(Op::BitShift {
+            x: Operand::Column(name(alloc, "t")?, path(alloc, ".a")?),
+            by: -1,
+            out: path(alloc, ".o")?,
+        }),
+        Case::Add(y) => Ok(Op::Add(pair(alloc, y)?)),
+        Case::Subtract(y) => Ok(Op::Subtract(pair(alloc, y)?)),
+        Case::Multiply(y) => Ok(Op::Multiply(pair(alloc, y)?)),
+        Case::Divide(y) => Ok(Op::Divide(pair(alloc, y)?)),
+        Case::Modulo(y) => Ok(Op::Modulo(pair(alloc, y)?)),
+        Case::Greater(y) => Ok(Op::Greater(pair(alloc, y)?)),
+        Case::Equals(y) => Ok(Op::Equals(pair(alloc, y)?)),
+        Case::And(y) => Ok(Op::LogicalAnd(pair(alloc, y)?)),
+        Case::Or(y) => Ok(Op::LogicalOr(pair(alloc, y)?)),
+        Case::Fill(y) => Ok(Op::Fill(pair(alloc, y)?)),
+        _ => Err(AllocError),
+    }
 }
 
 /// The run of these statements and `Persist(out, a)`.
@@ -112,12 +205,14 @@ fn run(
     alloc: Global,
     statements: Vec<Statement>,
     a: &str,
-    numbers: &[i128],
+    slots: &[Slot],
 ) -> Result<Result<Results, RunRefusal>, AllocError> {
     let mut to = statements;
-    add(alloc, &mut to, "out", persist(alloc, a)?)?;
+    let out = name(alloc, "out")?;
+    let a = name(alloc, a)?;
+    add(&mut to, out, Op::Persist { a })?;
     let program = Program::new(to);
-    let store = store(alloc, numbers)?;
+    let store = store(alloc, slots)?;
     let Ok(shape) = program.check(alloc, &store) else {
         return Err(AllocError);
     };
@@ -127,161 +222,200 @@ fn run(
     Ok(run_plain(alloc, &program, &shape, &store))
 }
 
-fn done(run: Result<Results, RunRefusal>) -> Result<Results, AllocError> {
-    match run {
-        Ok(results) => Ok(results),
-        Err(_) => Err(AllocError),
-    }
-}
-
-/// The slot at place 0 of the only result.
-fn first(run: Result<Results, RunRefusal>) -> Result<Slot, AllocError> {
-    Ok(first_slot(&done(run)?))
-}
-
-fn overflows(run: &Result<Results, RunRefusal>) -> bool {
-    matches!(run, Err(RunRefusal::Overflow))
-}
-
-#[test]
-fn quotients_are_truncated_and_add_up_at_slot_0(rt: HostRuntime) -> Result<(), Fail> {
-    let alloc = rt.alloc();
-    let numbers = [5, -9, 1, 7];
-    let results = done(run(alloc, totals(alloc, 2)?, "s", &numbers)?)?;
-    assert_eq!(rt; results.named().len(), 1);
-    let (name, v) = &results.named()[0];
-    assert_eq!(rt; name.text(), "out");
-    assert_eq!(rt; v.len(), 4);
-    assert_eq!(rt; v.paths().len(), 1);
-    assert_eq!(rt; first_slot(&results), Some(1));
-    Ok(())
-}
-
-#[test]
-fn zero_divisors_give_empties_and_no_zero(rt: HostRuntime) -> Result<(), Fail> {
-    let alloc = rt.alloc();
-    let numbers = [5, -9];
-    assert_eq!(rt; first(run(alloc, totals(alloc, 0)?, "s", &numbers)?)?, None);
-    assert_eq!(rt; first(run(alloc, totals(alloc, 0)?, "h", &numbers)?)?, None);
-    assert_eq!(rt;
-        first(run(alloc, totals(alloc, 3)?, "h", &numbers)?)?,
-        Some(1)
-    );
-    Ok(())
-}
-
-#[test]
-fn totals_and_quotients_overflow_where_somebody_reaches_them(rt: HostRuntime) -> Result<(), Fail> {
-    let alloc = rt.alloc();
-    let high = [i128::MAX, 1];
-    assert!(rt; overflows(&run(alloc, totals(alloc, 1)?, "s", &high)?));
-    assert_eq!(rt;
-        first(run(alloc, totals(alloc, 1)?, "z", &high)?)?,
-        Some(i128::MAX)
-    );
-    let low = [i128::MIN];
-    assert!(rt; overflows(&run(alloc, totals(alloc, -1)?, "h", &low)?));
-    assert_eq!(rt;
-        first(run(alloc, totals(alloc, -1)?, "t", &low)?)?,
-        Some(i128::MIN)
-    );
-    let turned = [i128::MAX, 1, -1];
-    assert_eq!(rt;
-        first(run(alloc, totals(alloc, 1)?, "s", &turned)?)?,
-        Some(i128::MAX)
-    );
-    Ok(())
-}
-
-/// What the check says against `t = Load(t)` and these statements.
-fn fault(
+/// The slots at a path of the vector `v` that these statements make.
+fn slots_at(
     alloc: Global,
     statements: Vec<Statement>,
-) -> Result<Option<(u32, ProgramKind)>, AllocError> {
-    match Program::new(statements).check(alloc, &store(alloc, &[1])?) {
-        Ok(_) => Ok(None),
-        Err(ProgramRefusal::Bad { statement, kind }) => Ok(Some((statement, kind))),
-        Err(ProgramRefusal::NoMemory) => Err(AllocError),
+    slots: &[Slot],
+    at: &str,
+) -> Result<Vec<Slot>, AllocError> {
+    let Ok(results) = run(alloc, statements, "v", slots)? else {
+        return Err(AllocError);
+    };
+    let mut found = Vec::new(alloc);
+    let Some(shown) = results.named().first() else {
+        return Err(AllocError);
+    };
+    let Some(column) = shown.1.column_at(at) else {
+        return Err(AllocError);
+    };
+    for i in 0..column.len() {
+        found.push(column.get(i))?;
     }
+    Ok(found)
 }
 
-/// The same against one statement behind `t = Load(t)`.
-fn fault_of(alloc: Global, n: &str, op: Op) -> Result<Option<(u32, ProgramKind)>, AllocError> {
-    let mut to = Vec::new(alloc);
-    add(alloc, &mut to, "t", load(alloc, "t")?)?;
-    add(alloc, &mut to, n, op)?;
-    fault(alloc, to)
+/// `t = Load(t)`, `r = Range(3, .v, start, step, 0, 1)`, `v` the operator: the slots of `v` at a path.
+fn beside(
+    alloc: Global,
+    slots: &[Slot],
+    start: i64,
+    step: u64,
+    case: Case,
+    at: &str,
+) -> Result<Vec<Slot>, AllocError> {
+    let mut to = load(alloc)?;
+    let r = name(alloc, "r")?;
+    let out = path(alloc, ".v")?;
+    add(&mut to, r, range(Size::Number(3), out, start, step, 1)?)?;
+    let v = name(alloc, "v")?;
+    add(&mut to, v, whole(alloc, case)?)?;
+    slots_at(alloc, to, slots, at)
+}
+
+/// `t = Load(t)`, `r = Range(t, .run, 0, 1, 0, 3)`, `z = Zip(t, r)`, `v` the operator: the slots of `v`
+/// at `.o`.
+fn in_runs(alloc: Global, slots: &[Slot], case: Case) -> Result<Vec<Slot>, AllocError> {
+    let mut to = load(alloc)?;
+    let r = name(alloc, "r")?;
+    let size = Size::Of(name(alloc, "t")?);
+    let out = path(alloc, ".run")?;
+    add(&mut to, r, range(size, out, 0, 1, 3)?)?;
+    let z = name(alloc, "z")?;
+    let a = name(alloc, "t")?;
+    let b = name(alloc, "r")?;
+    add(&mut to, z, Op::Zip { a, b })?;
+    let v = name(alloc, "v")?;
+    add(&mut to, v, whole(alloc, case)?)?;
+    slots_at(alloc, to, slots, ".o")
 }
 
 #[test]
-fn a_program_is_refused_at_its_first_bad_statement(rt: HostRuntime) -> Result<(), Fail> {
+fn folds_stay_in_their_runs(rt: HostRuntime) -> Result<(), Fail> {
     let alloc = rt.alloc();
-    assert_eq!(rt;
-        fault_of(alloc, "u", load(alloc, "u")?)?,
-        Some((2, ProgramKind::UnknownName))
-    );
-    assert_eq!(rt;
-        fault_of(alloc, "z", zip(alloc, "t", "u")?)?,
-        Some((2, ProgramKind::UnknownName))
-    );
-    assert_eq!(rt;
-        fault_of(alloc, "h", divide(alloc, "t", ".b", 2)?)?,
-        Some((2, ProgramKind::NoSuchPath))
-    );
-    assert_eq!(rt;
-        fault_of(alloc, "z", zip(alloc, "t", "t")?)?,
-        Some((2, ProgramKind::PathClash))
-    );
-    assert_eq!(rt;
-        fault_of(alloc, "t", load(alloc, "t")?)?,
-        Some((2, ProgramKind::NameTwice))
-    );
-    assert_eq!(rt;
-        fault_of(alloc, "u", load(alloc, "t")?)?,
-        Some((0, ProgramKind::NoPersist))
-    );
-    assert_eq!(rt; fault_of(alloc, "t", persist(alloc, "t")?)?, None);
+    let values = [Some(1), Some(0), Some(1), Some(1), Some(0), Some(1)];
+    let cases = [
+        (
+            Case::Select,
+            [Some(0), Some(2), None, Some(3), Some(5), None],
+        ),
+        (Case::Sum, [Some(2), None, None, Some(2), None, None]),
+        (Case::Min, [Some(0), None, None, Some(0), None, None]),
+        (Case::Max, [Some(1), None, None, Some(1), None, None]),
+        (
+            Case::Scan,
+            [Some(1), Some(1), Some(2), Some(1), Some(1), Some(2)],
+        ),
+        (
+            Case::Up,
+            [Some(1), Some(4), Some(0), Some(2), Some(3), Some(5)],
+        ),
+        (
+            Case::Down,
+            [Some(0), Some(2), Some(3), Some(5), Some(1), Some(4)],
+        ),
+    ];
+    for (case, expected) in cases {
+        let found = in_runs(alloc, &values, case)?;
+        assert_eq!(rt; found.as_slice(), expected.as_slice());
+    }
     Ok(())
 }
 
 #[test]
-fn roots_numbers_and_results_are_refused_too(rt: HostRuntime) -> Result<(), Fail> {
+fn slots_move_to_their_positions(rt: HostRuntime) -> Result<(), Fail> {
     let alloc = rt.alloc();
-    let root = zeros(alloc, Size::Number(3), ".")?;
-    assert_eq!(rt;
-        fault_of(alloc, "r", root)?,
-        Some((2, ProgramKind::PathClash))
-    );
-    let numbers = Op::Divide(PairArgs {
-        x: Operand::Number(7),
-        y: Operand::Number(2),
-        out: path(alloc, ".h")?,
-    });
-    assert_eq!(rt;
-        fault_of(alloc, "h", numbers)?,
-        Some((2, ProgramKind::NoLength))
-    );
-    let mut twice = Vec::new(alloc);
-    add(alloc, &mut twice, "t", load(alloc, "t")?)?;
-    add(alloc, &mut twice, "out", persist(alloc, "t")?)?;
-    add(alloc, &mut twice, "out", persist(alloc, "t")?)?;
-    assert_eq!(rt; fault(alloc, twice)?, Some((3, ProgramKind::NameTwice)));
+    let twice = [Some(1), Some(1), Some(5)];
+    let found = beside(alloc, &twice, 10, 10, Case::Scatter, ".v")?;
+    assert_eq!(rt; found.as_slice(), [None, Some(20), None].as_slice());
+    let places = [Some(2), None, Some(-1), Some(0), Some(0), Some(3)];
+    let found = beside(alloc, &places, 10, 10, Case::Gather, ".v")?;
+    let expected = [Some(30), None, None, Some(10), Some(10), None];
+    assert_eq!(rt; found.as_slice(), expected.as_slice());
+    let keys = [Some(0), Some(1), None, Some(5)];
+    let found = beside(alloc, &keys, 1, 2, Case::Bucket, ".o")?;
+    let expected = [Some(0), Some(1), None, Some(3)];
+    assert_eq!(rt; found.as_slice(), expected.as_slice());
+    let keys = [Some(3), Some(1), Some(2), Some(1)];
+    let found = beside(alloc, &keys, 1, 1, Case::Partition, ".o")?;
+    let expected = [Some(3), Some(0), Some(2), Some(1)];
+    assert_eq!(rt; found.as_slice(), expected.as_slice());
     Ok(())
 }
 
 #[test]
-fn long_ranges_pass_the_check_and_are_a_limit(rt: HostRuntime) -> Result<(), Fail> {
+fn attributes_are_handed_on(rt: HostRuntime) -> Result<(), Fail> {
     let alloc = rt.alloc();
+    let two = [Some(7), None];
+    let found = beside(alloc, &two, 0, 1, Case::Cross, ".p")?;
+    let expected = [Some(0), Some(0), Some(0), Some(1), Some(1), Some(1)];
+    assert_eq!(rt; found.as_slice(), expected.as_slice());
+    let found = beside(alloc, &two, 0, 1, Case::Upsert, ".v")?;
+    assert_eq!(rt; found.as_slice(), [Some(7), None, None].as_slice());
+    let found = projected(alloc)?;
+    assert_eq!(rt; found.as_slice(), [Some(4), Some(5)].as_slice());
+    Ok(())
+}
+
+/// `r = Range(2, .p.x, 4, 1, 0, 1)`, `v = Project(r, .p, .q.z)`: the slots at `.q.z.x`.
+fn projected(alloc: Global) -> Result<Vec<Slot>, AllocError> {
     let mut to = Vec::new(alloc);
-    add(
-        alloc,
-        &mut to,
-        "r",
-        zeros(alloc, Size::Number(4_194_305), ".run")?,
-    )?;
-    add(alloc, &mut to, "out", persist(alloc, "r")?)?;
-    let shape = Program::new(to).check(alloc, &store(alloc, &[1])?);
-    assert!(rt; shape.is_ok_and(|s| s.limit() == Some((1, 4_194_305))));
+    let r = name(alloc, "r")?;
+    let out = path(alloc, ".p.x")?;
+    add(&mut to, r, range(Size::Number(2), out, 4, 1, 1)?)?;
+    let v = name(alloc, "v")?;
+    let a = name(alloc, "r")?;
+    let p = path(alloc, ".p")?;
+    let q = path(alloc, ".q.z")?;
+    add(&mut to, v, Op::Project { a, p, q })?;
+    slots_at(alloc, to, &[], ".q.z.x")
+}
+
+#[test]
+fn operators_work_slot_by_slot(rt: HostRuntime) -> Result<(), Fail> {
+    let alloc = rt.alloc();
+    let cases = [
+        (Case::Add(2), [Some(9), None, Some(-1)]),
+        (Case::Subtract(2), [Some(5), None, Some(-5)]),
+        (Case::Multiply(2), [Some(14), None, Some(-6)]),
+        (Case::Divide(2), [Some(3), None, Some(-1)]),
+        (Case::Divide(0), [None, None, None]),
+        (Case::Modulo(2), [Some(1), None, Some(1)]),
+        (Case::Shift, [Some(3), None, Some(-2)]),
+        (Case::Greater(0), [Some(1), None, Some(0)]),
+        (Case::Equals(7), [Some(1), None, Some(0)]),
+        (Case::And(0), [Some(0), Some(0), Some(0)]),
+        (Case::Or(1), [Some(1), Some(1), Some(1)]),
+        (Case::Fill(2), [Some(7), Some(2), Some(-3)]),
+    ];
+    for (case, expected) in cases {
+        let found = beside(alloc, &[Some(7), None, Some(-3)], 0, 1, case, ".o")?;
+        assert_eq!(rt; found.as_slice(), expected.as_slice());
+    }
+    Ok(())
+}
+
+#[test]
+fn nothing_is_made_of_nothing(rt: HostRuntime) -> Result<(), Fail> {
+    let alloc = rt.alloc();
+    for case in [Case::Sum, Case::Select, Case::Scan, Case::Down] {
+        assert_eq!(rt; in_runs(alloc, &[], case)?.len(), 0);
+    }
+    let found = in_runs(alloc, &[None, None], Case::Max)?;
+    assert_eq!(rt; found.as_slice(), [None, None].as_slice());
+    assert_eq!(rt; beside(alloc, &[], 0, 1, Case::Copy, ".a")?.len(), 0);
+    Ok(())
+}
+
+/// `t = Load(t)`, `h = Add(t.a, 1, .o)`, `v = Break(t)`.
+fn with_sum(alloc: Global) -> Result<Vec<Statement>, AllocError> {
+    let mut to = load(alloc)?;
+    let h = name(alloc, "h")?;
+    add(&mut to, h, slotwise(alloc, Case::Add(1))?)?;
+    let v = name(alloc, "v")?;
+    let a = name(alloc, "t")?;
+    add(&mut to, v, Op::Break { a })?;
+    Ok(to)
+}
+
+#[test]
+fn only_reached_statements_overflow(rt: HostRuntime) -> Result<(), Fail> {
+    let alloc = rt.alloc();
+    let high = [Some(i128::MAX)];
+    let found = slots_at(alloc, with_sum(alloc)?, &high, ".a")?;
+    assert_eq!(rt; found.as_slice(), high.as_slice());
+    let over = run(alloc, with_sum(alloc)?, "h", &high)?;
+    assert!(rt; matches!(over, Err(RunRefusal::Overflow)));
     Ok(())
 }
 

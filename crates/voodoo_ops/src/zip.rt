@@ -1,20 +1,37 @@
 //! Zip: the attributes of two vectors, at the shorter length.
 
-ghost use Rattle.std.specs.Prelude.{◌≡◌, ◌++◌, ◌∷◌, [], ◌<◌, ◌≤◌, false, length, slice_index_or, IfOk, OnOk};
-ghost use Rattle.voodoo_ops.specs.Check.{outline_of, path_clash, zipped_outline};
-ghost use Rattle.voodoo_ops.specs.Merges.{merged};
-ghost use Rattle.voodoo_ops.specs.Operators.{zipped};
-ghost use Rattle.voodoo_ops.specs.Outlines.{earlier, fronts, no_attribute};
-ghost use Rattle.voodoo_ops.specs.Vectors.{seen};
+ghost use Rattle.std.specs.Prelude.{◌≡◌, ◌++◌, ◌∷◌, [], ◌<◌, ◌≤◌, true, false, is_some, length, slice_index_or, IfOk, OnOk, Ok};
+ghost use Rattle.slot_columns.specs.Stops.{Exact};
+ghost use Rattle.programs.specs.Faults.{path_clash};
+ghost use Rattle.programs.specs.Merges.{merged};
+ghost use Rattle.programs.specs.Outlines.{outline_of};
+ghost use Rattle.programs.specs.Vectors.{known, seen};
+ghost use Rattle.voodoo_ops.specs.Attributes.{zipped};
+ghost use Rattle.voodoo_ops.specs.Columns.{earlier, fronts, no_attribute};
+ghost use Rattle.voodoo_ops.specs.Envs.{env_in};
 
 use crate::NoMemory;
-use crate::ordered::takes_second;
+use crate::made::Made;
+use crate::paths::takes_second;
+use crate::reading::vector;
+use io_edge::Name;
 use key_paths::Path;
+use slot_columns::Stop;
 use std::alloc::{AllocError, Global};
 use struct_vectors::{Column, StructVector};
 
 /// How many attributes a vector may have at most, and one more.
 const TOO_MANY: usize = 1 << 32;
+
+/// The vector that Zip makes.
+pub(crate) fn zip_made(alloc: Global, made: &Made, a: &Name, b: &Name) -> Result<StructVector, Stop>
+    requires a { is_some ((env_in made.now) a.now) ≡ true }
+    requires b { is_some ((env_in made.now) b.now) ≡ true }
+    requires clear { path_clash (outline_of (zipped (known ((env_in made.now) a.now)) (known ((env_in made.now) b.now)))) ≡ false }
+    ensures { Exact seen result (Ok (zipped (known ((env_in made.now) a.now)) (known ((env_in made.now) b.now)))) }
+{
+    Ok(zip(alloc, vector(made, a), vector(made, b))?)
+}
 
 /// The attributes of both, at the shorter length. They are not in each other's way.
 pub(crate) fn zip(
@@ -22,7 +39,7 @@ pub(crate) fn zip(
     a: &StructVector,
     b: &StructVector,
 ) -> Result<StructVector, NoMemory>
-    requires { path_clash (zipped_outline (outline_of (seen a.now)) (outline_of (seen b.now))) ≡ false }
+    requires { path_clash (outline_of (zipped (seen a.now) (seen b.now))) ≡ false }
     ensures { IfOk result (λ v. seen v ≡ zipped (seen a.now) (seen b.now)) }
 {
     if a.paths().len() + b.paths().len() >= TOO_MANY {

@@ -14,12 +14,11 @@ use Rattle.key_paths.specs.Paths.{is_dot, begins_segment, is_in_segment, is_segm
 use Rattle.key_paths.specs.declared.refusal.PathKind.{PathKind}
 use Rattle.key_paths.specs.declared.refusal.PathRefusal.{PathRefusal}
 use Rattle.key_paths.specs.declared.refusal.PathRefusal.TheVariants.{Bad}
-use Rattle.voodoo_text.specs.Canonical.{Bytes}
-use Rattle.voodoo_text.specs.Values.{begins_name, name_of, path_of, is_path, nonempty_tail, segments_of}
-use Rattle.voodoo_text.proofs.Words.{IsWord, is_in_word, all_weaker, all_both, none_passes}
+use Rattle.voodoo_text.specs.Values.{Bytes, is_path, nonempty_tail, segments_of}
+use Rattle.voodoo_text.proofs.Bools.{all_weaker, all_both, none_passes}
 
 -- ---- names
-begins_inside : (b : ℕ) → begins_segment b ≡ true → is_in_segment b ≡ true
+pub begins_inside : (b : ℕ) → begins_segment b ≡ true → is_in_segment b ≡ true
 begins_inside b h = grind (arith, nat_tests)
 
 pub segment_inside : (w : Bytes) → is_segment w ≡ true → list_all is_in_segment w ≡ true
@@ -41,12 +40,6 @@ segment_short (b ∷ w) h =
     let few = leb-true (length w) 63 others.1 in
     omega arith
 
-inside_word : (b : ℕ) → is_in_segment b ≡ true → is_in_word b ≡ true
-inside_word b h = grind (arith, nat_tests)
-
-pub name_word : (w : Bytes) → is_segment w ≡ true → IsWord w
-name_word w h = record { some = segment_some w h; inside = all_weaker is_in_segment is_in_word inside_word w (segment_inside w h) }
-
 -- ---- paths
 -- the bytes of a path
 abbrev pub is_in_path : ℕ → Bool
@@ -63,9 +56,6 @@ path_ascii (b ∷ w) h =
 
 inside_path : (b : ℕ) → is_in_segment b ≡ true → is_in_path b ≡ true
 inside_path b h = or_left (is_in_segment b) (is_dot b) h
-
-path_word_byte : (b : ℕ) → is_in_path b ≡ true → is_in_word b ≡ true
-path_word_byte b h = grind (arith, nat_tests)
 
 segment_in_path : (w : Bytes) → is_segment w ≡ true → list_all is_in_path w ≡ true
 segment_in_path w h = all_weaker is_in_segment is_in_path inside_path w (segment_inside w h)
@@ -100,16 +90,12 @@ text_form (s ∷ segments) few h =
 pub path_form : (w : Bytes) → IsPath w → PathForm w
 path_form w is = subst PathForm (sym is.is) (text_form is.segments is.few is.each)
 
-pub path_word : (w : Bytes) → IsPath w → IsWord w
-path_word w is =
-    let form = path_form w is in
-    record { some = rw (form.dot) (omega arith); inside = all_weaker is_in_path is_in_word path_word_byte w form.inside }
-
 pub path_utf8 : (w : Bytes) → IsPath w → IsUtf8 w
 path_utf8 w is = IsUtf8-from_ascii w (path_ascii w (path_form w is).inside)
 
 -- ---- whether a word is a path
 pub path_from_test : (w : Bytes) → is_path w ≡ true → IsPath w
+unfolding is_path
 path_from_test w h =
     let few = and_parts _ _ h in
     let each = and_parts _ _ few.1 in
@@ -140,6 +126,7 @@ segments_back (s ∷ segments) h =
     ap (λ (parts : List Bytes). nonempty_tail ([] ∷ parts)) (split_joined s segments h) ∙ tail_of_segments s segments both.0
 
 test_of_text : (segments : List Bytes) → length segments ≤ 8 → list_all is_segment segments ≡ true → is_path (path_text segments) ≡ true
+unfolding is_path
 test_of_text segments few h =
     rw (segments_back segments h)
     (and_from _ _ (le-leb (length segments) 8 few) (and_from _ _ h ((bytes_eq-Decides (path_text segments) (path_text segments)).1 refl)))
@@ -147,33 +134,8 @@ test_of_text segments few h =
 pub test_from_path : (w : Bytes) → IsPath w → is_path w ≡ true
 test_from_path w is = rw (is.is) (test_of_text is.segments is.few is.each)
 
--- ---- what a word spells
-pub name_read : (w : Bytes) → is_segment w ≡ true → name_of w ≡ Some w
-name_read w h = rw h refl
+pub no_path : (w : Bytes) → (IsPath w → ⊥) → is_path w ≡ false
+no_path w none = elim (is_path w) as (λ t. is_path w ≡ t → is_path w ≡ false) [ true ↦ λ h. absurd (none (path_from_test w h)) | false ↦ λ h. h ] refl
 
-pub path_read : (w : Bytes) → IsPath w → path_of w ≡ Some w
-path_read w is = rw (test_from_path w is) refl
-
-pub no_path : (w : Bytes) → (IsPath w → ⊥) → path_of w ≡ None
-no_path w none = elim (is_path w) as (λ t. is_path w ≡ t → path_of w ≡ None) [ true ↦ λ h. absurd (none (path_from_test w h)) | false ↦ λ h. rw h refl ] refl
-
--- a name in front of a path
-pub name_before : (name path : Bytes) → is_segment name ≡ true → IsPath path → prefix_len is_in_segment (name ++ path) ≡ length name
-name_before name path h is =
-    let form = path_form path is in
-    rw (form.dot) (ends name form.rest (segment_inside name h))
-  where
-    ends : (w rest : Bytes) → list_all is_in_segment w ≡ true → prefix_len is_in_segment (w ++ 46 ∷ rest) ≡ length w
-    ends [] rest h = refl
-    ends (b ∷ w) rest h =
-        let both = and_parts (is_in_segment b) (list_all is_in_segment w) h in
-        rw both.0 (omega (arith, ends w rest both.1))
-
--- a text that is refused at a byte is no path
-pub refuted : (text : Bytes) (refusal : PathRefusal) (at : ℕ) (kind : PathKind) → refusal ≡ Bad at kind → Refuses text refusal → IsPath text → ⊥
-refuted text refusal at kind is h = let R : PathRefusal → Type 0 = Refuses text in (subst R is h).none
-
--- a name begins as names do
-pub name_begins : (w : Bytes) → is_segment w ≡ true → begins_name w ≡ true
-name_begins [] h = cc
-name_begins (b ∷ w) h = (and_parts (begins_segment b) _ h).0
+pub path_inside : (p : Bytes) → IsPath p → list_all is_in_path p ≡ true
+path_inside p is = (path_form p is).inside

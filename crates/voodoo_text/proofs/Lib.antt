@@ -1,7 +1,10 @@
 pub mod Options
-pub mod Words
+pub mod Bools
 pub mod Forms
 pub mod Numbers
-pub mod Shapes
-pub mod Sound
+pub mod Tokens
+pub mod SameKinds
+pub mod Lexing
+pub mod Spelling
 pub mod RoundTrip
+pub mod ReadingLines

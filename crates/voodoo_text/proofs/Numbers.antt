@@ -13,11 +13,8 @@ use Rattle.std.proofs.lemmas.List.Folds.{list_all_at}
 use Rattle.std.proofs.lemmas.Bool.Decides.{nat_tests}
 use Rattle.std.proofs.lemmas.Fmt.{decimal_is_IsNumeral_wide}
 use Rattle.std.proofs.lemmas.Option.{cond_some}
-use Rattle.voodoo_text.specs.Canonical.{Bytes}
-use Rattle.voodoo_text.specs.Values.{natural_of, integer_of, begins_name}
-use Rattle.voodoo_text.specs.Spelled.{IsStart}
+use Rattle.voodoo_text.specs.Values.{Bytes, digits_within, integer_within, natural_within}
 use Rattle.voodoo_text.proofs.Options.{mapped}
-use Rattle.voodoo_text.proofs.Words.{IsWord, is_in_word, all_weaker}
 
 digit_from_value : (b : ℕ) → digit_value b < 10 → is_ascii_digit b ≡ true
 digit_from_value b h = grind (arith, nat_tests)
@@ -26,57 +23,31 @@ all_digits : (ds : Bytes) → AllDigits 10 ds → list_all is_ascii_digit ds ≡
 all_digits [] h = refl
 all_digits (b ∷ ds) h = and_from (is_ascii_digit b) (list_all is_ascii_digit ds) (digit_from_value b h.0) (all_digits ds h.1)
 
-digit_word : (b : ℕ) → is_ascii_digit b ≡ true → is_in_word b ≡ true
-digit_word b h = grind (arith, nat_tests)
-
 pub decimal_digits : (n : ℕ) → n < 10 ^ 64 → list_all is_ascii_digit (decimal n) ≡ true
 decimal_digits n h = all_digits (decimal n) (decimal_is_IsNumeral_wide n h).0.1
 
-pub decimal_word : (n : ℕ) → n < 10 ^ 64 → IsWord (decimal n)
-decimal_word n h =
-    let some = (decimal_is_IsNumeral_wide n h).0.0 in
-    record { some = omega arith; inside = all_weaker is_ascii_digit is_in_word digit_word (decimal n) (decimal_digits n h) }
-
-pub natural_read : (most n : ℕ) → n ≤ most → n < 10 ^ 64 → natural_of most (decimal n) ≡ Some n
+pub natural_read : (most n : ℕ) → n ≤ most → n < 10 ^ 64 → digits_within most (decimal n) ≡ Some n
 natural_read most n below h =
     let is : digits_value 10 (decimal n) ≡ n = (decimal_is_IsNumeral_wide n h).1 in
     rw (decimal_digits n h, is, le-leb n most below) refl
 
-pub natural_below : (most n : ℕ) (w : Bytes) → natural_of most w ≡ Some n → n ≤ most
+pub natural_below : (most n : ℕ) (w : Bytes) → digits_within most w ≡ Some n → n ≤ most
 natural_below most n w h =
     let found = cond_some _ _ _ h in
     let tests = and_parts _ _ found.0 in
     let below = leb-true (digits_value 10 w) most tests.1 in
     omega arith
 
--- digits begin as no name does, and without a sign
-digits_first : (w : Bytes) → list_all is_ascii_digit w ≡ true → begins_name w ≡ false
-digits_first [] h = refl
-digits_first (b ∷ w) h = let first = (and_parts (is_ascii_digit b) (list_all is_ascii_digit w) h).0 in grind (arith, nat_tests)
-
-digits_unsigned : (w : Bytes) → list_all is_ascii_digit w ≡ true → starts_with_minus w ≡ false
+pub digits_unsigned : (w : Bytes) → list_all is_ascii_digit w ≡ true → starts_with_minus w ≡ false
 digits_unsigned [] h = refl
 digits_unsigned (b ∷ w) h = let first = (and_parts (is_ascii_digit b) (list_all is_ascii_digit w) h).0 in grind (arith, nat_tests)
-
-pub decimal_first : (n : ℕ) → n < 10 ^ 64 → begins_name (decimal n) ≡ false
-decimal_first n h = digits_first (decimal n) (decimal_digits n h)
 
 -- how far from 0
 abbrev pub Within : ℕ → ℕ → ℤ → Type 0
 Within least most (pos n) = n ≤ most
 Within least most (negsuc n) = n < least
 
-pub signed_word : (least most : ℕ) (z : ℤ) → least < 10 ^ 64 → most < 10 ^ 64 → Within least most z → IsWord (signed_decimal z)
-signed_word least most (pos n) small large h = decimal_word n (omega arith)
-signed_word least most (negsuc n) small large h =
-    let digits = decimal_word (suc n) (omega arith) in
-    record { some = omega arith; inside = digits.inside }
-
-pub signed_first : (least most : ℕ) (z : ℤ) → least < 10 ^ 64 → most < 10 ^ 64 → Within least most z → begins_name (signed_decimal z) ≡ false
-signed_first least most (pos n) small large h = decimal_first n (omega arith)
-signed_first least most (negsuc n) small large h = refl
-
-pub integer_read : (least most : ℕ) (z : ℤ) → least < 10 ^ 64 → most < 10 ^ 64 → Within least most z → integer_of least most (signed_decimal z) ≡ Some z
+pub integer_read : (least most : ℕ) (z : ℤ) → least < 10 ^ 64 → most < 10 ^ 64 → Within least most z → integer_within least most (signed_decimal z) ≡ Some z
 integer_read least most (pos n) small large h =
     let plain = digits_unsigned (decimal n) (decimal_digits n (omega arith)) in
     rw (plain, natural_read most n h (omega arith)) refl
@@ -84,10 +55,10 @@ integer_read least most (negsuc n) small large h =
     rw (natural_read least (suc n) (omega arith) (omega arith)) refl
 
 -- ---- digits read one by one
-no_digits : (most : ℕ) (w : Bytes) → list_all is_ascii_digit w ≡ false → natural_of most w ≡ None
+no_digits : (most : ℕ) (w : Bytes) → list_all is_ascii_digit w ≡ false → digits_within most w ≡ None
 no_digits most w h = rw h refl
 
-too_large : (most : ℕ) (w : Bytes) → most < digits_value 10 w → natural_of most w ≡ None
+too_large : (most : ℕ) (w : Bytes) → most < digits_value 10 w → digits_within most w ≡ None
 too_large most w h =
     let large = lt-leb (digits_value 10 w) most h in
     rw (and_right (list_all is_ascii_digit w) (nat_le (digits_value 10 w) most) large) refl
@@ -105,11 +76,11 @@ value_append n [] ys = refl
 value_append n (b ∷ xs) ys = value_append (n * 10 + digit_value b) xs ys
 
 -- a byte that is no digit
-pub stops_at : (most : ℕ) (w : Bytes) (i : ℕ) → i < length w → is_ascii_digit (get_or w i 0) ≡ false → natural_of most w ≡ None
+pub stops_at : (most : ℕ) (w : Bytes) (i : ℕ) → i < length w → is_ascii_digit (get_or w i 0) ≡ false → digits_within most w ≡ None
 stops_at most w i within h = no_digits most w (list_all_at is_ascii_digit w i 0 within h)
 
 -- one digit more leaves what is larger than a tenth of the greatest number larger than it
-pub grows_past : (most : ℕ) (w : Bytes) (i : ℕ) → i < length w → most / 10 < digits_value 10 (take i w) → natural_of most w ≡ None
+pub grows_past : (most : ℕ) (w : Bytes) (i : ℕ) → i < length w → most / 10 < digits_value 10 (take i w) → digits_within most w ≡ None
 grows_past most w i within h =
     let some : 1 ≤ length (drop i w) = simp length-drop (omega arith) in
     let whole : digits_value 10 w ≡ digits_value_after 10 (digits_value 10 (take i w)) (drop i w) = ap (digits_value 10) (sym (take-append-drop i w)) ∙ value_append 0 (take i w) (drop i w) in
@@ -123,20 +94,15 @@ negated_within : (least n : ℕ) → n ≤ least → (most : ℕ) → Within lea
 negated_within least zero h most = omega arith
 negated_within least (suc n) h most = omega arith
 
-pub integer_within : (least most : ℕ) (z : ℤ) (w : Bytes) → integer_of least most w ≡ Some z → Within least most z
-integer_within least most z w h = by_sign (starts_with_minus w) h
+pub integer_fits : (least most : ℕ) (z : ℤ) (w : Bytes) → integer_within least most w ≡ Some z → Within least most z
+integer_fits least most z w h = by_sign (starts_with_minus w) h
   where
-    by_sign : (minus : Bool) → (if minus then option_map (λ n. neg_ℤ (pos n)) (natural_of least (drop 1 w)) else option_map pos (natural_of most w)) ≡ Some z → Within least most z
+    by_sign : (minus : Bool) → (if minus then option_map (λ n. neg_ℤ (pos n)) (digits_within least (drop 1 w)) else option_map pos (digits_within most w)) ≡ Some z → Within least most z
     by_sign true e =
-        let found = mapped (λ n. neg_ℤ (pos n)) (natural_of least (drop 1 w)) z e in
+        let found = mapped (λ n. neg_ℤ (pos n)) (digits_within least (drop 1 w)) z e in
         let W : ℤ → Type 0 = Within least most in
         subst W found.2 (negated_within least found.0 (natural_below least found.0 (drop 1 w) found.1) most)
     by_sign false e =
-        let found = mapped pos (natural_of most w) z e in
+        let found = mapped pos (digits_within most w) z e in
         let W : ℤ → Type 0 = Within least most in
         subst W found.2 (natural_below most found.0 w found.1)
-
--- from how far to the order of whole numbers
-pub start_within : (z : ℤ) → Within (2 ^ 62) (2 ^ 62) z → IsStart z
-start_within (pos n) h = omega (arith, ints)
-start_within (negsuc n) h = omega (arith, ints)

@@ -1,220 +1,314 @@
--- A program's text reads to that program, and to no other.
-use Rattle.std.proofs.Common.{◌≡◌, ℤ, pos, negsuc, ◌^◌, ◌-◌, ◌<◌, ◌≤◌, true, List, [], ◌∷◌, ◌++◌, length, map, lit<, lit≤, refl, ap, sym, ◌∙◌, subst, arith, append_assoc, append-nil}
-use Rattle.std.specs.Prelude.{Option, Some, Err, codes, neg_ℤ, ◌≤ℤ◌}
+-- A program's text is read as that program, each statement on a line of its own.
+use Rattle.std.proofs.Common.{◌≡◌, ℕ, ℤ, pos, negsuc, suc, ◌^◌, ◌+◌, ◌-◌, ◌<◌, ◌≤◌, Bool, true, false, not, ◌&&◌, List, [], ◌∷◌, ◌++◌, length, map, lit<, refl, ap, sym, ◌∙◌, subst, arith, append_assoc, append-nil}
+use Rattle.std.specs.Prelude.{Option, Some, None, Result, Ok, Err, codes, neg_ℤ, ◌≤ℤ◌, nat_le, nat_lt, ◌==◌}
 use Rattle.std.specs.Fmt.{decimal, signed_decimal}
-use Rattle.std.specs.List.{list_all}
-use Rattle.std.specs.Str.{bytes_eq}
-use Rattle.std.proofs.lemmas.Bool.{le-leb}
+use Rattle.std.specs.List.{list_all, flat_map, range_with_len}
+use Rattle.std.specs.Option.{option_map}
+use Rattle.std.specs.Str.{bytes_eq, IsAscii}
+use Rattle.std.proofs.lemmas.Bool.{and_parts, and_right, le-leb, ltb-true}
+use Rattle.std.proofs.lemmas.Bool.Decides.{nat_tests}
 use Rattle.std.proofs.lemmas.Int.{ints}
-use Rattle.std.proofs.lemmas.List.{take_at, drop_at, length-append}
-use Rattle.std.proofs.lemmas.Option.{cond_some, none-some}
-use Rattle.std.proofs.lemmas.Slice.Eq.{bytes_eq-Decides}
+use Rattle.std.proofs.lemmas.List.Splits.{slice_split_at}
+use Rattle.std.proofs.lemmas.Str.{IsUtf8-from_ascii, IsAscii-append, is_utf8-from_IsUtf8}
+use Rattle.std.proofs.lemmas.Str.Ascii.{IsAscii-nil, IsAscii-cons}
+use Rattle.phrases.specs.Parsers.{and_then, pure, ◌>>=◌}
 use Rattle.control_vectors.specs.Controls.{Control, IsAdmissible}
 use Rattle.key_paths.specs.Paths.{is_segment, IsPath}
-use Rattle.voodoo_ops.specs.declared.op.Size.{Size}
-use Rattle.voodoo_ops.specs.declared.op.Size.TheVariants as size
-use Rattle.voodoo_ops.specs.declared.op.Operand.{Operand}
-use Rattle.voodoo_ops.specs.declared.op.Operand.TheVariants as operand
-use Rattle.voodoo_ops.specs.declared.op.Op.{Op}
-use Rattle.voodoo_ops.specs.declared.op.Op.TheVariants.{Load, Persist, Range, Zip, Divide, FoldSum}
-use Rattle.voodoo_ops.specs.declared.op.PairArgs.{PairArgs}
-use Rattle.voodoo_ops.specs.declared.op.FoldArgs.{FoldArgs}
-use Rattle.voodoo_ops.specs.declared.op.Statement.{Statement}
-use Rattle.voodoo_text.specs.declared.parts.Separator.TheVariants.{BetweenLines}
-use Rattle.voodoo_text.specs.Canonical.{Bytes, size_text, operand_text, operator_word, pair_arguments, fold_arguments, arguments, target, listed, call, statement_text, text_of}
-use Rattle.voodoo_text.specs.declared.stop.Stop.{Stop}
-use Rattle.voodoo_text.specs.declared.stop.Stop.TheVariants.{NotCanonical}
-use Rattle.voodoo_text.specs.Outcomes.{Gives}
-use Rattle.voodoo_text.specs.Parts.{lines, words}
-use Rattle.voodoo_text.specs.Reading.{pair_of, fold_of, statement_of, statements_of, program_of}
-use Rattle.voodoo_text.specs.Spelled.{IsName, SizeHasName, OperandHasName, HasNames, CanBeSpelled, SizeInRange, OperandInRange, InRange, HasRanges}
-use Rattle.voodoo_text.specs.Values.{name_of, path_of, begins_name, size_of, column_of, operand_of, control_vector_of}
-use Rattle.voodoo_text.specs.Laws.{IsTextOf, TextLaws}
-use Rattle.voodoo_text.proofs.Forms.{name_word, path_word, name_read, path_read, name_before, name_begins}
-use Rattle.voodoo_text.proofs.Numbers.{Within, decimal_word, signed_word, natural_read, integer_read, decimal_first, signed_first}
-use Rattle.voodoo_text.proofs.Options.{chained}
-use Rattle.voodoo_text.proofs.Sound.{statements_sound}
-use Rattle.voodoo_text.proofs.Words.{IsWord, AreWords, none, more, is_in_line, all_both, word_in_line, call_words, target_words, call_in_line, none_feeds, part_then}
+use Rattle.programs.specs.declared.op.Size.{Size}
+use Rattle.programs.specs.declared.op.Operand.{Operand}
+use Rattle.programs.specs.declared.order_keys.OrderPath.{OrderPath}
+use Rattle.voodoo_text.specs.declared.read_text.ReadProgram.{ReadProgram}
+use Rattle.voodoo_text.specs.declared.refusal.TextRefusal.{TextRefusal}
+use Rattle.programs.specs.declared.op.Op.{Op}
+use Rattle.programs.specs.declared.op.Op.TheVariants.{Load, Persist, Range, Cross, Zip, Project, Upsert, Gather, Scatter, Bucket, Partition, Materialize, Break, FoldSum, FoldMin, FoldMax, FoldSelect, FoldScan, Order, Add, Subtract, Multiply, Divide, Modulo, BitShift, Greater, Equals, LogicalAnd, LogicalOr, Fill}
+use Rattle.programs.specs.declared.op.PairArgs.{PairArgs}
+use Rattle.programs.specs.declared.op.FoldArgs.{FoldArgs}
+use Rattle.programs.specs.declared.op.RankArgs.{RankArgs}
+use Rattle.programs.specs.declared.op.Statement.{Statement}
+use Rattle.voodoo_text.specs.declared.kind.Kind.TheVariants as k
+use Rattle.voodoo_text.specs.declared.operator.Operator.{Operator}
+use Rattle.voodoo_text.specs.declared.operator.Operator.TheVariants as o
+use Rattle.voodoo_text.specs.declared.operator.SingleOperator.TheVariants as s
+use Rattle.voodoo_text.specs.declared.operator.RankOperator.TheVariants as r
+use Rattle.voodoo_text.specs.declared.operator.FoldOperator.TheVariants as f
+use Rattle.voodoo_text.specs.declared.operator.PairOperator.TheVariants as q
+use Rattle.voodoo_text.specs.Kinds.{same_kind}
+use Rattle.voodoo_text.specs.Values.{Bytes, is_start, admitted}
+use Rattle.voodoo_text.specs.Tokens.{Token, token, tokens_from, tokens}
+use Rattle.voodoo_text.specs.Operators.{operator_of}
+use Rattle.voodoo_text.specs.Places.{Parser, expect, name, path, size, operand, number, next}
+use Rattle.voodoo_text.specs.Statements as spec
+use Rattle.voodoo_text.specs.Statements.{arguments, statement, line_of}
+use Rattle.voodoo_text.specs.Canonical.{operator_word, pair_arguments, fold_arguments, rank_arguments, range_arguments, target, listed, call, statement_text, line, text_of}
+use Rattle.voodoo_text.specs.Canonical as canonical
+use Rattle.voodoo_text.specs.Spelled.{IsName, IsShift, HasNames, PairHasNames, RankHasNames, SizeHasName, OperandHasName, StatementHasNames, CanBeSpelled, InRange, PairInRange, FoldInRange, RankInRange, SizeInRange, OperandInRange, KeysInRange, HasRanges}
+use Rattle.voodoo_text.specs.Reading.{is_feed, lines, read, on_line, with_statement, with_line, read_lines, read_text}
+use Rattle.voodoo_text.specs.Laws.{line_by_line, IsTextOf, TextLaws}
+use Rattle.voodoo_text.proofs.Bools.{all_both, none_passes, all_weaker}
+use Rattle.voodoo_text.proofs.Numbers.{Within}
+use Rattle.voodoo_text.proofs.Lexing.{comma_ends, close_ends, name_ends, name_then, open_then, equal_then, comma_then, close_then}
+use Rattle.voodoo_text.proofs.Spelling.{is_plain, Listed, Others, nothing_more, one_more, first_one, and_made, keys_more, name_spells, path_spells, size_spells, operand_spells, integer_spells, natural_spells, plain_name}
 
--- ---- each argument is a word, and spells what it was made of
-record Spells {A : Type 0} (read : Bytes → Option A) (w : Bytes) (value : A) : Type 0 where
-  word : IsWord w
-  reads : read w ≡ Some value
+-- ---- the arguments of each operator
 
-name_spells : (n : Bytes) → IsName n → Spells name_of n n
-name_spells n h = record { word = name_word n h; reads = name_read n h }
-
-path_spells : (p : Bytes) → IsPath p → Spells path_of p p
-path_spells p is = record { word = path_word p is; reads = path_read p is }
-
-size_spells : (s : Size) → SizeHasName s → SizeInRange s → Spells size_of (size_text s) s
-size_spells (size.Number n) named below =
-    record { word = decimal_word n (omega arith); reads = rw (decimal_first n (omega arith), natural_read (2 ^ 32 - 1) n (omega arith) (omega arith)) refl }
-size_spells (size.Of n) named below =
-    record { word = name_word n named; reads = rw (name_begins n named, name_read n named) refl }
-
-within_number : (z : ℤ) → OperandInRange (operand.Number z) → Within (2 ^ 127) (2 ^ 127 - 1) z
-within_number (pos n) h = omega (arith, ints)
-within_number (negsuc n) h = omega (arith, ints)
-
-column_reads : (n p : Bytes) → IsName n → IsPath p → column_of (n ++ p) ≡ Some (operand.Column n p)
-column_reads n p named is =
-    let len = name_before n p named is in
-    rw (len, take_at n p (length n) refl, drop_at n p (length n) refl, name_read n named, path_read p is) refl
-
-operand_spells : (o : Operand) → OperandHasName o → OperandInRange o → Spells operand_of (operand_text o) o
-operand_spells (operand.Column n p) named is =
-    record { word = both (name_word n named) (path_word p is); reads = rw (begins n p named) (column_reads n p named is) }
-  where
-    both : IsWord n → IsWord p → IsWord (n ++ p)
-    both a b = record { some = omega (arith, a.some, length-append n p); inside = all_both _ n p a.inside b.inside }
-
-    begins : (n p : Bytes) → is_segment n ≡ true → begins_name (n ++ p) ≡ true
-    begins [] p h = cc
-    begins (b ∷ n) p h = name_begins (b ∷ n) h
-operand_spells (operand.Number z) named range =
-    let within = within_number z range in
-    record {
-      word = signed_word (2 ^ 127) (2 ^ 127 - 1) z (lit< tt) (lit< tt) within;
-      reads = rw (signed_first (2 ^ 127) (2 ^ 127 - 1) z (lit< tt) (lit< tt) within, integer_read (2 ^ 127) (2 ^ 127 - 1) z (lit< tt) (lit< tt) within) refl;
-    }
-
-within_start : (z : ℤ) → neg_ℤ (pos (2 ^ 62)) ≤ℤ z → z ≤ℤ pos (2 ^ 62) → Within (2 ^ 62) (2 ^ 62) z
+within_start : (z : ℤ) → neg_ℤ (pos (2 ^ 62)) ≤ℤ z → z ≤ℤ pos (2 ^ 62) → Within (2 ^ 63) (2 ^ 63 - 1) z
 within_start (pos n) low high = omega (arith, ints)
 within_start (negsuc n) low high = omega (arith, ints)
 
-control_reads : (v : Control) → IsAdmissible v → control_vector_of (signed_decimal v.start) (decimal v.step) (decimal v.modulus) (decimal v.divisor) ≡ Some v
-control_reads v is =
-    rw (
-      integer_read (2 ^ 62) (2 ^ 62) v.start (lit< tt) (lit< tt) (within_start v.start is.start_from is.start_to),
-      natural_read (2 ^ 31) v.step is.step_to (omega (arith, is.step_to)),
-      natural_read (2 ^ 31) v.modulus is.modulus_to (omega (arith, is.modulus_to)),
-      natural_read (2 ^ 31) v.divisor is.divisor_to (omega (arith, is.divisor_to)),
-      le-leb 1 v.divisor is.divisor_from,
-    ) refl
+starts : (z : ℤ) → neg_ℤ (pos (2 ^ 62)) ≤ℤ z → z ≤ℤ pos (2 ^ 62) → is_start z ≡ true
+starts (pos n) low high = grind (arith, nat_tests, ints)
+starts (negsuc n) low high = grind (arith, nat_tests, ints)
 
--- ---- each operator's arguments are words, and are read as the operator
-pair_read : (args : PairArgs) → OperandHasName args.x → OperandInRange args.x → OperandHasName args.y → OperandInRange args.y → IsPath args.out → pair_of (pair_arguments args) ≡ Some args
-pair_read args named_x range_x named_y range_y out =
-    rw ((operand_spells args.x named_x range_x).reads, (operand_spells args.y named_y range_y).reads, path_read args.out out) refl
+admitted_is : (v : Control) → IsAdmissible v → admitted v.start v.step v.modulus v.divisor ≡ Some v
+admitted_is v is =
+    rw (starts v.start is.start_from is.start_to, le-leb v.step (2 ^ 31) is.step_to, le-leb v.modulus (2 ^ 31) is.modulus_to, le-leb 1 v.divisor is.divisor_from, le-leb v.divisor (2 ^ 31) is.divisor_to) refl
 
-fold_read : (args : FoldArgs) → IsName args.a → IsPath args.val → IsPath args.run → IsPath args.out → fold_of (fold_arguments args) ≡ Some args
-fold_read args a val run out = rw (name_read args.a a, path_read args.val val, path_read args.run run, path_read args.out out) refl
+within_shift : (z : ℤ) → IsShift z → Within 127 127 z
+within_shift (pos n) h = omega (arith, ints)
+within_shift (negsuc n) h = omega (arith, ints)
 
-arguments_words : (name : Bytes) (op : Op) → IsName name → HasNames op → InRange op → AreWords (arguments name op)
-arguments_words name (Load table) h names ranges = more table [] (name_word table names) none
-arguments_words name (Persist a) h names ranges = more name (a ∷ []) (name_word name h) (more a [] (name_word a names) none)
-arguments_words name (Range s out v) h names ranges =
-    let is = ranges.2 in
-    more _ _ (size_spells s names ranges.0).word (more _ _ (path_word out ranges.1)
-    (more _ _ (signed_word (2 ^ 62) (2 ^ 62) v.start (lit< tt) (lit< tt) (within_start v.start is.start_from is.start_to))
-    (more _ _ (decimal_word v.step (omega (arith, is.step_to))) (more _ _ (decimal_word v.modulus (omega (arith, is.modulus_to)))
-    (more _ _ (decimal_word v.divisor (omega (arith, is.divisor_to))) none)))))
-arguments_words name (Zip a b) h names ranges = more a (b ∷ []) (name_word a names.0) (more b [] (name_word b names.1) none)
-arguments_words name (Divide args) h names ranges =
-    more _ _ (operand_spells args.x names.0 ranges.0).word (more _ _ (operand_spells args.y names.1 ranges.1).word (more _ _ (path_word args.out ranges.2) none))
-arguments_words name (FoldSum args) h names ranges =
-    more _ _ (name_word args.a names) (more _ _ (path_word args.val ranges.0) (more _ _ (path_word args.run ranges.1) (more _ _ (path_word args.out ranges.2) none)))
+range_listed : (n : Size) (out : Bytes) (v : Control) → SizeHasName n → SizeInRange n → IsPath out → IsAdmissible v → Listed spec.range (range_arguments n out v) (Some (Range n out v))
+unfolding spec.range
+range_listed n out v named ranged is adm =
+    let made : Others (pure (option_map (Range n out) (admitted v.start v.step v.modulus v.divisor))) [] (Some (Range n out v)) =
+    record { reads = λ rest. ap (λ c. Ok (option_map (Range n out) c, tokens_from false 0 (41 ∷ rest))) (admitted_is v adm); inside = refl } in
+    first_one size _ _ _ n _ (size_spells n named ranged)
+    (one_more path _ _ _ out _ (path_spells out is)
+    (one_more _ _ _ _ v.start _ (integer_spells (2 ^ 63) (2 ^ 63 - 1) v.start (lit< tt) (lit< tt) (within_start v.start adm.start_from adm.start_to))
+    (one_more _ _ _ _ v.step _ (natural_spells (2 ^ 64 - 1) v.step (lit< tt) (omega (arith, adm.step_to)))
+    (one_more _ _ _ _ v.modulus _ (natural_spells (2 ^ 64 - 1) v.modulus (lit< tt) (omega (arith, adm.modulus_to)))
+    (one_more _ _ _ _ v.divisor _ (natural_spells (2 ^ 64 - 1) v.divisor (lit< tt) (omega (arith, adm.divisor_to)))
+    made)))))
 
--- the words of a statement's line
-abbrev statement_words : Bytes → Op → List Bytes
-statement_words name (Persist a) = codes "Persist" ∷ name ∷ a ∷ []
-statement_words name op = name ∷ codes "=" ∷ operator_word op ∷ arguments name op
+pair_listed : (args : PairArgs) → PairHasNames args → PairInRange args → Listed spec.pair (pair_arguments args) args
+unfolding spec.pair
+pair_listed args names ranges =
+    first_one operand _ _ _ args.x _ (operand_spells args.x names.0 ranges.0)
+    (one_more operand _ _ _ args.y _ (operand_spells args.y names.1 ranges.1)
+    (one_more path _ _ _ args.out _ (path_spells args.out ranges.2) (nothing_more args)))
 
-word_is : (op : Op) → IsWord (operator_word op)
-word_is (Load table) = record { some = lit≤ tt; inside = refl }
-word_is (Persist a) = record { some = lit≤ tt; inside = refl }
-word_is (Range s out v) = record { some = lit≤ tt; inside = refl }
-word_is (Zip a b) = record { some = lit≤ tt; inside = refl }
-word_is (Divide args) = record { some = lit≤ tt; inside = refl }
-word_is (FoldSum args) = record { some = lit≤ tt; inside = refl }
+fold_listed : (args : FoldArgs) → IsName args.a → FoldInRange args → Listed spec.fold (fold_arguments args) args
+unfolding spec.fold
+fold_listed args named ranges =
+    first_one name _ _ _ args.a _ (name_spells args.a named)
+    (one_more path _ _ _ args.val _ (path_spells args.val ranges.0)
+    (one_more path _ _ _ args.run _ (path_spells args.run ranges.1)
+    (one_more path _ _ _ args.out _ (path_spells args.out ranges.2) (nothing_more args))))
 
-assigned_words : (name w : Bytes) (ws : List Bytes) → IsName name → IsWord w → AreWords ws → words ((name ++ codes " = ") ++ call w ws) ≡ name ∷ codes "=" ∷ w ∷ ws
-assigned_words name w ws h is are = target_words name (call w ws) (name_word name h) ∙ ap (λ (others : List Bytes). name ∷ codes "=" ∷ others) (call_words w ws is are)
+pub rank_listed : (args : RankArgs) → RankHasNames args → RankInRange args → Listed spec.rank (rank_arguments args) args
+unfolding spec.rank
+rank_listed args names ranges =
+    first_one name _ _ _ args.a _ (name_spells args.a names.0)
+    (one_more path _ _ _ args.key _ (path_spells args.key ranges.0)
+    (one_more name _ _ _ args.b _ (name_spells args.b names.1)
+    (one_more path _ _ _ args.pivot _ (path_spells args.pivot ranges.1)
+    (one_more path _ _ _ args.out _ (path_spells args.out ranges.2) (nothing_more args)))))
 
-words_of : (name : Bytes) (op : Op) → IsName name → HasNames op → InRange op → words (target name op ++ call (operator_word op) (arguments name op)) ≡ statement_words name op
-words_of name (Persist a) h names ranges = call_words (codes "Persist") (name ∷ a ∷ []) (word_is (Persist a)) (arguments_words name (Persist a) h names ranges)
-words_of name (Load table) h names ranges = assigned_words name _ _ h (word_is (Load table)) (arguments_words name (Load table) h names ranges)
-words_of name (Range s out v) h names ranges = assigned_words name _ _ h (word_is (Range s out v)) (arguments_words name (Range s out v) h names ranges)
-words_of name (Zip a b) h names ranges = assigned_words name _ _ h (word_is (Zip a b)) (arguments_words name (Zip a b) h names ranges)
-words_of name (Divide args) h names ranges = assigned_words name _ _ h (word_is (Divide args)) (arguments_words name (Divide args) h names ranges)
-words_of name (FoldSum args) h names ranges = assigned_words name _ _ h (word_is (FoldSum args)) (arguments_words name (FoldSum args) h names ranges)
+load_listed : (t : Bytes) → IsName t → Listed spec.load (t ∷ []) (Load t)
+unfolding spec.load
+load_listed t h = first_one name _ _ _ t _ (name_spells t h) (nothing_more (Load t))
 
-abbrev made : Bytes → Op → Statement
-made name op = record { name = name; op = op }
+cross_listed : (a p b q : Bytes) → IsName a × IsName b → IsPath p × IsPath q → Listed spec.cross (a ∷ p ∷ b ∷ q ∷ []) (Cross a p b q)
+unfolding spec.cross
+cross_listed a p b q names ranges =
+    first_one name _ _ _ a _ (name_spells a names.0)
+    (one_more path _ _ _ p _ (path_spells p ranges.0)
+    (one_more name _ _ _ b _ (name_spells b names.1)
+    (one_more path _ _ _ q _ (path_spells q ranges.1) (nothing_more (Cross a p b q)))))
 
-words_read : (name : Bytes) (op : Op) → IsName name → HasNames op → InRange op → statement_of (statement_words name op) ≡ Some (made name op)
-words_read name (Load table) h names ranges = rw (name_read name h, name_read table names) refl
-words_read name (Persist a) h names ranges = rw (name_read name h, name_read a names) refl
-words_read name (Range s out v) h names ranges = rw (name_read name h, (size_spells s names ranges.0).reads, path_read out ranges.1, control_reads v ranges.2) refl
-words_read name (Zip a b) h names ranges = rw (name_read name h, name_read a names.0, name_read b names.1) refl
-words_read name (Divide args) h names ranges = rw (name_read name h, pair_read args names.0 ranges.0 names.1 ranges.1 ranges.2) refl
-words_read name (FoldSum args) h names ranges = rw (name_read name h, fold_read args names ranges.0 ranges.1 ranges.2) refl
+zip_listed : (a b : Bytes) → IsName a × IsName b → Listed spec.zip (a ∷ b ∷ []) (Zip a b)
+unfolding spec.zip
+zip_listed a b names = first_one name _ _ _ a _ (name_spells a names.0) (one_more name _ _ _ b _ (name_spells b names.1) (nothing_more (Zip a b)))
 
-statement_read : (s : Statement) → IsName s.name → HasNames s.op → InRange s.op → statement_of (words (statement_text s)) ≡ Some s
-statement_read s h names ranges = ap statement_of (words_of s.name s.op h names ranges) ∙ words_read s.name s.op h names ranges
+project_listed : (a p q : Bytes) → IsName a → IsPath p × IsPath q → Listed spec.project (a ∷ p ∷ q ∷ []) (Project a p q)
+unfolding spec.project
+project_listed a p q named ranges =
+    first_one name _ _ _ a _ (name_spells a named)
+    (one_more path _ _ _ p _ (path_spells p ranges.0)
+    (one_more path _ _ _ q _ (path_spells q ranges.1) (nothing_more (Project a p q))))
 
--- ---- a statement stands on one line
-target_in_line : (name : Bytes) (op : Op) → IsName name → list_all is_in_line (target name op) ≡ true
-target_in_line name (Persist a) h = refl
-target_in_line name (Load table) h = all_both is_in_line name (codes " = ") (word_in_line name (name_word name h)) refl
-target_in_line name (Range s out v) h = all_both is_in_line name (codes " = ") (word_in_line name (name_word name h)) refl
-target_in_line name (Zip a b) h = all_both is_in_line name (codes " = ") (word_in_line name (name_word name h)) refl
-target_in_line name (Divide args) h = all_both is_in_line name (codes " = ") (word_in_line name (name_word name h)) refl
-target_in_line name (FoldSum args) h = all_both is_in_line name (codes " = ") (word_in_line name (name_word name h)) refl
+upsert_listed : (a p b q : Bytes) → IsName a × IsName b → IsPath p × IsPath q → Listed spec.upsert (a ∷ p ∷ b ∷ q ∷ []) (Upsert a p b q)
+unfolding spec.upsert
+upsert_listed a p b q names ranges =
+    first_one name _ _ _ a _ (name_spells a names.0)
+    (one_more path _ _ _ p _ (path_spells p ranges.0)
+    (one_more name _ _ _ b _ (name_spells b names.1)
+    (one_more path _ _ _ q _ (path_spells q ranges.1) (nothing_more (Upsert a p b q)))))
 
-in_line : (s : Statement) → IsName s.name → HasNames s.op → InRange s.op → list_all is_in_line (statement_text s) ≡ true
-in_line s h names ranges =
-    all_both is_in_line (target s.name s.op) (call (operator_word s.op) (arguments s.name s.op)) (target_in_line s.name s.op h)
-    (call_in_line (operator_word s.op) (arguments s.name s.op) (word_is s.op) (arguments_words s.name s.op h names ranges))
+gather_listed : (a b at : Bytes) → IsName a × IsName b → IsPath at → Listed spec.gather (a ∷ b ∷ at ∷ []) (Gather a b at)
+unfolding spec.gather
+gather_listed a b at names is =
+    first_one name _ _ _ a _ (name_spells a names.0)
+    (one_more name _ _ _ b _ (name_spells b names.1)
+    (one_more path _ _ _ at _ (path_spells at is) (nothing_more (Gather a b at))))
 
-some_text : (s : Statement) → 1 ≤ length (statement_text s)
-some_text s =
-    let word = (word_is s.op).some in
-    omega (arith, length-append (target s.name s.op) (call (operator_word s.op) (arguments s.name s.op)), length-append (operator_word s.op) (codes "(" ++ (listed (arguments s.name s.op) ++ codes ")")))
+scatter_listed : (a : Bytes) (n : Size) (b at : Bytes) → IsName a × SizeHasName n × IsName b → SizeInRange n × IsPath at → Listed spec.scatter (a ∷ canonical.size_text n ∷ b ∷ at ∷ []) (Scatter a n b at)
+unfolding spec.scatter
+scatter_listed a n b at names ranges =
+    first_one name _ _ _ a _ (name_spells a names.0)
+    (one_more size _ _ _ n _ (size_spells n names.1 ranges.0)
+    (one_more name _ _ _ b _ (name_spells b names.2)
+    (one_more path _ _ _ at _ (path_spells at ranges.1) (nothing_more (Scatter a n b at)))))
+
+materialize_listed : (a : Bytes) → IsName a → Listed spec.materialize (a ∷ []) (Materialize a)
+unfolding spec.materialize
+materialize_listed a h = first_one name _ _ _ a _ (name_spells a h) (nothing_more (Materialize a))
+
+break_listed : (a : Bytes) → IsName a → Listed spec.break_ (a ∷ []) (Break a)
+unfolding spec.break_
+break_listed a h = first_one name _ _ _ a _ (name_spells a h) (nothing_more (Break a))
+
+order_listed : (a mark out : Bytes) (ks : List OrderPath) → IsName a → IsPath mark × IsPath out × KeysInRange ks → Listed spec.order (a ∷ mark ∷ out ∷ map canonical.key_text ks) (Order a mark out ks)
+unfolding spec.order
+order_listed a mark out ks named ranges =
+    first_one name _ _ _ a _ (name_spells a named)
+    (one_more path _ _ _ mark _ (path_spells mark ranges.0)
+    (one_more path _ _ _ out _ (path_spells out ranges.1) (keys_more (Order a mark out) ks ranges.2)))
+
+shift_listed : (x : Operand) (by : ℤ) (out : Bytes) → OperandHasName x × IsShift by → OperandInRange x × IsPath out → Listed spec.bit_shift (canonical.operand_text x ∷ signed_decimal by ∷ out ∷ []) (BitShift x by out)
+unfolding spec.bit_shift
+shift_listed x by out names ranges =
+    first_one operand _ _ _ x _ (operand_spells x names.0 ranges.0)
+    (one_more _ _ _ _ by _ (integer_spells 127 127 by (lit< tt) (lit< tt) (within_shift by names.1))
+    (one_more path _ _ _ out _ (path_spells out ranges.1) (nothing_more (BitShift x by out))))
+
+-- ---- the tokens of a line
+
+open_tokens : (w : Bytes) (ws : List Bytes) → IsName w → tokens_from false 0 (call w ws) ≡ token k.Name w ∷ token k.Open (40 ∷ []) ∷ tokens_from false 0 (listed ws ++ 41 ∷ [])
+open_tokens w ws h = name_then false w 40 (listed ws ++ 41 ∷ []) h refl ∙ ap (λ ts. token k.Name w ∷ ts) (open_then true (listed ws ++ 41 ∷ []))
+
+assigned_tokens : (n w : Bytes) (ws : List Bytes) → IsName n → IsName w
+    → tokens ((n ++ codes " = ") ++ call w ws) ≡ token k.Name n ∷ token k.Equal (61 ∷ []) ∷ token k.Name w ∷ token k.Open (40 ∷ []) ∷ tokens_from false 0 (listed ws ++ 41 ∷ [])
+assigned_tokens n w ws h is =
+    ap tokens (append_assoc n (codes " = ") (call w ws))
+    ∙ name_then false n 32 (61 ∷ 32 ∷ call w ws) h refl
+    ∙ ap (λ ts. token k.Name n ∷ ts) (equal_then false (32 ∷ call w ws) ∙ ap (λ ts. token k.Equal (61 ∷ []) ∷ ts) (open_tokens w ws is))
+
+assigned_line : (n w : Bytes) (a : Operator) (op : Op) (ts : List Token) → operator_of w ≡ Some a → arguments a ts ≡ Ok (Some op, token k.Close (41 ∷ []) ∷ [])
+    → line_of (token k.Name n ∷ token k.Equal (61 ∷ []) ∷ token k.Name w ∷ token k.Open (40 ∷ []) ∷ ts) ≡ Ok (statement n op)
+unfolding line_of spec.at_end spec.statement_of spec.after_word spec.assigned spec.operator expect same_kind
+assigned_line n w a op ts e h = rw (and_right (bytes_eq n (codes "Persist")) false refl, e, h) refl
+
+-- a text of one line that is read as a statement
+pub record LineReads (text : Bytes) (s : Statement) : Type 0 where
+  pub reads : line_of (tokens text) ≡ Ok s
+  pub inside : list_all is_plain text ≡ true
+
+plain_call : (w : Bytes) (ws : List Bytes) → IsName w → list_all is_plain (listed ws) ≡ true → list_all is_plain (call w ws) ≡ true
+plain_call w ws is h = all_both is_plain w (40 ∷ (listed ws ++ 41 ∷ [])) (plain_name w is) (all_both is_plain (listed ws) (41 ∷ []) h refl)
+
+assigned_reads : (n w : Bytes) (a : Operator) (ws : List Bytes) (op : Op) → IsName n → IsName w → operator_of w ≡ Some a → Listed (arguments a) ws (Some op) → LineReads ((n ++ codes " = ") ++ call w ws) (statement n op)
+assigned_reads n w a ws op h is e l = record {
+  reads = ap line_of (assigned_tokens n w ws h is) ∙ assigned_line n w a op (tokens_from false 0 (listed ws ++ 41 ∷ [])) e (l.reads [] ∙ ap (λ (ts : List Token). Ok (Some op, ts)) (close_then false []));
+  inside = all_both is_plain (n ++ codes " = ") (call w ws) (all_both is_plain n (codes " = ") (plain_name n h) refl) (plain_call w ws is l.inside);
+}
+
+persist_line : (n a : Bytes) → line_of (token k.Name (codes "Persist") ∷ token k.Open (40 ∷ []) ∷ token k.Name n ∷ token k.Comma (44 ∷ []) ∷ token k.Name a ∷ token k.Close (41 ∷ []) ∷ []) ≡ Ok (statement n (Persist a))
+unfolding line_of spec.at_end spec.statement_of spec.after_word spec.persisted expect same_kind
+persist_line n a = refl
+
+pair_tokens : (n a : Bytes) → IsName n → IsName a → tokens_from false 0 (listed (n ∷ a ∷ []) ++ 41 ∷ []) ≡ token k.Name n ∷ token k.Comma (44 ∷ []) ∷ token k.Name a ∷ token k.Close (41 ∷ []) ∷ []
+pair_tokens n a h is =
+    ap (tokens_from false 0) (append_assoc n (44 ∷ 32 ∷ (a ++ [])) (41 ∷ []))
+    ∙ name_ends n 44 (32 ∷ ((a ++ []) ++ 41 ∷ [])) h comma_ends
+    ∙ ap (λ ts. token k.Name n ∷ ts) (comma_then false (32 ∷ ((a ++ []) ++ 41 ∷ []))
+    ∙ ap (λ ts. token k.Comma (44 ∷ []) ∷ ts) (ap (λ (z : Bytes). tokens_from false 0 (z ++ 41 ∷ [])) (append-nil a)
+    ∙ name_ends a 41 [] is close_ends ∙ ap (λ ts. token k.Name a ∷ ts) (close_then false [])))
+
+persist_reads : (n a : Bytes) → IsName n → IsName a → LineReads (call (codes "Persist") (n ∷ a ∷ [])) (statement n (Persist a))
+persist_reads n a h is = record {
+  reads = ap line_of (open_tokens (codes "Persist") (n ∷ a ∷ []) refl ∙ ap (λ ts. token k.Name (codes "Persist") ∷ token k.Open (40 ∷ []) ∷ ts) (pair_tokens n a h is)) ∙ persist_line n a;
+  inside = plain_call (codes "Persist") (n ∷ a ∷ []) refl (all_both is_plain n (44 ∷ 32 ∷ (a ++ [])) (plain_name n h) (all_both is_plain a [] (plain_name a is) refl));
+}
+
+-- ---- statements
+
+pub statement_reads : (n : Bytes) (op : Op) → IsName n → HasNames op → InRange op → LineReads (statement_text (statement n op)) (statement n op)
+unfolding operator_of arguments spec.single
+statement_reads n (Load t) h names ranges = assigned_reads n (codes "Load") (o.Single s.Load) _ _ h refl refl (and_made spec.load Some _ _ (load_listed t names))
+statement_reads n (Persist a) h names ranges = persist_reads n a h names
+statement_reads n (Range size out v) h names ranges = assigned_reads n (codes "Range") o.Range _ _ h refl refl (range_listed size out v names ranges.0 ranges.1 ranges.2)
+statement_reads n (Cross a p b q) h names ranges = assigned_reads n (codes "Cross") (o.Single s.Cross) _ _ h refl refl (and_made spec.cross Some _ _ (cross_listed a p b q names ranges))
+statement_reads n (Zip a b) h names ranges = assigned_reads n (codes "Zip") (o.Single s.Zip) _ _ h refl refl (and_made spec.zip Some _ _ (zip_listed a b names))
+statement_reads n (Project a p q) h names ranges = assigned_reads n (codes "Project") (o.Single s.Project) _ _ h refl refl (and_made spec.project Some _ _ (project_listed a p q names ranges))
+statement_reads n (Upsert a p b q) h names ranges = assigned_reads n (codes "Upsert") (o.Single s.Upsert) _ _ h refl refl (and_made spec.upsert Some _ _ (upsert_listed a p b q names ranges))
+statement_reads n (Gather a b at) h names ranges = assigned_reads n (codes "Gather") (o.Single s.Gather) _ _ h refl refl (and_made spec.gather Some _ _ (gather_listed a b at names ranges))
+statement_reads n (Scatter a size b at) h names ranges = assigned_reads n (codes "Scatter") (o.Single s.Scatter) _ _ h refl refl (and_made spec.scatter Some _ _ (scatter_listed a size b at names ranges))
+statement_reads n (Bucket args) h names ranges = assigned_reads n (codes "Bucket") (o.Rank r.Bucket) _ _ h refl refl (and_made spec.rank (λ x. Some (Bucket x)) _ _ (rank_listed args names ranges))
+statement_reads n (Partition args) h names ranges = assigned_reads n (codes "Partition") (o.Rank r.Partition) _ _ h refl refl (and_made spec.rank (λ x. Some (Partition x)) _ _ (rank_listed args names ranges))
+statement_reads n (Materialize a) h names ranges = assigned_reads n (codes "Materialize") (o.Single s.Materialize) _ _ h refl refl (and_made spec.materialize Some _ _ (materialize_listed a names))
+statement_reads n (Break a) h names ranges = assigned_reads n (codes "Break") (o.Single s.Break) _ _ h refl refl (and_made spec.break_ Some _ _ (break_listed a names))
+statement_reads n (FoldSum args) h names ranges = assigned_reads n (codes "FoldSum") (o.Fold f.Sum) _ _ h refl refl (and_made spec.fold (λ x. Some (FoldSum x)) _ _ (fold_listed args names ranges))
+statement_reads n (FoldMin args) h names ranges = assigned_reads n (codes "FoldMin") (o.Fold f.Min) _ _ h refl refl (and_made spec.fold (λ x. Some (FoldMin x)) _ _ (fold_listed args names ranges))
+statement_reads n (FoldMax args) h names ranges = assigned_reads n (codes "FoldMax") (o.Fold f.Max) _ _ h refl refl (and_made spec.fold (λ x. Some (FoldMax x)) _ _ (fold_listed args names ranges))
+statement_reads n (FoldSelect args) h names ranges = assigned_reads n (codes "FoldSelect") (o.Fold f.Select) _ _ h refl refl (and_made spec.fold (λ x. Some (FoldSelect x)) _ _ (fold_listed args names ranges))
+statement_reads n (FoldScan args) h names ranges = assigned_reads n (codes "FoldScan") (o.Fold f.Scan) _ _ h refl refl (and_made spec.fold (λ x. Some (FoldScan x)) _ _ (fold_listed args names ranges))
+statement_reads n (Order a mark out keys) h names ranges = assigned_reads n (codes "Order") (o.Single s.Order) _ _ h refl refl (and_made spec.order Some _ _ (order_listed a mark out keys names ranges))
+statement_reads n (Add args) h names ranges = assigned_reads n (codes "Add") (o.Pair q.Add) _ _ h refl refl (and_made spec.pair (λ x. Some (Add x)) _ _ (pair_listed args names ranges))
+statement_reads n (Subtract args) h names ranges = assigned_reads n (codes "Subtract") (o.Pair q.Subtract) _ _ h refl refl (and_made spec.pair (λ x. Some (Subtract x)) _ _ (pair_listed args names ranges))
+statement_reads n (Multiply args) h names ranges = assigned_reads n (codes "Multiply") (o.Pair q.Multiply) _ _ h refl refl (and_made spec.pair (λ x. Some (Multiply x)) _ _ (pair_listed args names ranges))
+statement_reads n (Divide args) h names ranges = assigned_reads n (codes "Divide") (o.Pair q.Divide) _ _ h refl refl (and_made spec.pair (λ x. Some (Divide x)) _ _ (pair_listed args names ranges))
+statement_reads n (Modulo args) h names ranges = assigned_reads n (codes "Modulo") (o.Pair q.Modulo) _ _ h refl refl (and_made spec.pair (λ x. Some (Modulo x)) _ _ (pair_listed args names ranges))
+statement_reads n (Greater args) h names ranges = assigned_reads n (codes "Greater") (o.Pair q.Greater) _ _ h refl refl (and_made spec.pair (λ x. Some (Greater x)) _ _ (pair_listed args names ranges))
+statement_reads n (Equals args) h names ranges = assigned_reads n (codes "Equals") (o.Pair q.Equals) _ _ h refl refl (and_made spec.pair (λ x. Some (Equals x)) _ _ (pair_listed args names ranges))
+statement_reads n (LogicalAnd args) h names ranges = assigned_reads n (codes "LogicalAnd") (o.Pair q.LogicalAnd) _ _ h refl refl (and_made spec.pair (λ x. Some (LogicalAnd x)) _ _ (pair_listed args names ranges))
+statement_reads n (LogicalOr args) h names ranges = assigned_reads n (codes "LogicalOr") (o.Pair q.LogicalOr) _ _ h refl refl (and_made spec.pair (λ x. Some (LogicalOr x)) _ _ (pair_listed args names ranges))
+statement_reads n (Fill args) h names ranges = assigned_reads n (codes "Fill") (o.Pair q.Fill) _ _ h refl refl (and_made spec.pair (λ x. Some (Fill x)) _ _ (pair_listed args names ranges))
+statement_reads n (BitShift x by out) h names ranges = assigned_reads n (codes "BitShift") (o.Single s.BitShift) _ _ h refl refl (and_made spec.bit_shift Some _ _ (shift_listed x by out names ranges))
 
 -- ---- programs
-lines_of_text : (program : List Statement) → CanBeSpelled program → HasRanges program → lines (text_of program) ≡ map statement_text program
-lines_of_text [] names ranges = refl
-lines_of_text (s ∷ program) names ranges =
-    ap lines (append_assoc (statement_text s) (codes "\n") (text_of program))
-    ∙ part_then BetweenLines (statement_text s) 10 (text_of program) (some_text s) (none_feeds (statement_text s) (in_line s names.0.0 names.0.1 ranges.0)) refl
-    ∙ ap (λ (others : List Bytes). statement_text s ∷ others) (lines_of_text program names.1 ranges.1)
 
-statements_read : (program : List Statement) → CanBeSpelled program → HasRanges program → statements_of (map statement_text program) ≡ Some program
-statements_read [] names ranges = refl
-statements_read (s ∷ program) names ranges =
-    rw (statement_read s names.0.0 names.0.1 ranges.0, statements_read program names.1 ranges.1) refl
+plain_no_feed : (b : ℕ) → is_plain b ≡ true → not (is_feed b) ≡ true
+plain_no_feed b h = (and_parts (nat_lt b 128) (not (b == 10)) h).1
 
-same_text : (bytes : Bytes) → bytes_eq bytes bytes ≡ true
-same_text bytes = (bytes_eq-Decides bytes bytes).1 refl
+plain_ascii : (w : Bytes) → list_all is_plain w ≡ true → IsAscii w
+plain_ascii [] h = IsAscii-nil
+plain_ascii (b ∷ w) h =
+    let both = and_parts (is_plain b) (list_all is_plain w) h in
+    IsAscii-cons b w (ltb-true b 128 (and_parts (nat_lt b 128) (not (b == 10)) both.0).0) (plain_ascii w both.1)
 
-pub read_text : (program : List Statement) → CanBeSpelled program → HasRanges program → program_of (text_of program) ≡ Some program
-unfolding program_of
-read_text program names ranges =
-    rw (lines_of_text program names ranges, statements_read program names ranges, same_text (text_of program)) refl
+-- a line that is read has a token
+with_read : (n : ℕ) (ts : List Token) (s : Statement) (others : Result ReadProgram TextRefusal) → line_of ts ≡ Ok s → with_line n ts others ≡ with_statement n s others
+unfolding line_of spec.at_end spec.statement_of expect
+with_read n [] s others h = absurd (cc)
+with_read n (t ∷ ts) s others h = ap (λ r. on_line n r others) h
 
-pub read_law : (bytes : Bytes) (program : List Statement) → IsTextOf bytes program → program_of bytes ≡ Some program
-read_law bytes program is = ap program_of (sym is.text) ∙ read_text program is.names is.ranges
+line_by_lines : (n : ℕ) (program : List Statement) → CanBeSpelled program → HasRanges program → read_lines n (lines (text_of program)) ≡ Ok (read program (range_with_len n (length program)))
+line_by_lines n [] names ranges = refl
+line_by_lines n (s ∷ program) names ranges =
+    let l = statement_reads s.name s.op names.0.0 names.0.1 ranges.0 in
+    let free = none_passes is_feed (statement_text s) (all_weaker is_plain (λ b. not (is_feed b)) plain_no_feed (statement_text s) l.inside) in
+    ap (λ (z : Bytes). read_lines n (lines z)) (append_assoc (statement_text s) (codes "\n") (text_of program))
+    ∙ ap (read_lines n) (slice_split_at is_feed (statement_text s) 10 (text_of program) free refl)
+    ∙ with_read n (tokens (statement_text s)) s (read_lines (n + 1) (lines (text_of program))) l.reads
+    ∙ ap (with_statement n s) (line_by_lines (n + 1) program names.1 ranges.1)
 
-pub spelled_law : (bytes : Bytes) (program : List Statement) → program_of bytes ≡ Some program → IsTextOf bytes program
-unfolding program_of
-spelled_law bytes program h =
-    let found = chained _ (statements_of (lines bytes)) program h in
-    let same = cond_some _ found.0 program found.2 in
-    let fits = statements_sound (lines bytes) found.0 found.1 in
-    let T : List Statement → Type 0 = IsTextOf bytes in
-    subst T same.1 (record { names = fits.0; ranges = fits.1; text = (bytes_eq-Decides (text_of found.0) bytes).0 same.0 })
+text_ascii : (program : List Statement) → CanBeSpelled program → HasRanges program → IsAscii (text_of program)
+text_ascii [] names ranges = IsAscii-nil
+text_ascii (s ∷ program) names ranges =
+    let l = statement_reads s.name s.op names.0.0 names.0.1 ranges.0 in
+    IsAscii-append (line s) (text_of program) (IsAscii-append (statement_text s) (codes "\n") (plain_ascii (statement_text s) l.inside) (IsAscii-cons 10 [] (lit< tt) IsAscii-nil)) (text_ascii program names.1 ranges.1)
+
+pub text_reads : (program : List Statement) → CanBeSpelled program → HasRanges program → read_text (text_of program) ≡ Ok (line_by_line program)
+unfolding read_text
+text_reads program names ranges =
+    rw (is_utf8-from_IsUtf8 (text_of program) (IsUtf8-from_ascii (text_of program) (text_ascii program names ranges))) (line_by_lines 1 program names ranges)
+
+pub reads_law : (bytes : Bytes) (program : List Statement) → IsTextOf bytes program → read_text bytes ≡ Ok (line_by_line program)
+reads_law bytes program is = ap read_text (sym is.text) ∙ text_reads program is.names is.ranges
+
+ok_one : (a b : ReadProgram) → ◌≡◌ {A = Result ReadProgram TextRefusal} (Ok a) (Ok b) → a ≡ b
+ok_one a b h = cc
+
+pub one_law : (bytes : Bytes) (program : List Statement) (found : ReadProgram) → IsTextOf bytes program → read_text bytes ≡ Ok found → text_of found.program ≡ bytes
+one_law bytes program found is h =
+    let same = ok_one found (line_by_line program) (sym h ∙ reads_law bytes program is) in
+    ap (λ r. text_of r.program) same ∙ is.text
 
 pub text_laws : TextLaws
-text_laws = record { read = read_law; spelled = spelled_law }
+text_laws = record { reads = reads_law; one = one_law }
 
--- ---- what the calls say
-pub printed : (text : Bytes) (program rest : List Statement) → CanBeSpelled program → length rest < 1 → text ++ text_of rest ≡ text_of program → (HasRanges rest → HasRanges program) → program_of text ≡ Some program
-printed text program [] names h whole ranges = ap program_of (sym (append-nil text) ∙ whole) ∙ read_text program names (ranges tt)
+-- ---- what the call says
+pub printed : (text : Bytes) (program rest : List Statement) → CanBeSpelled program → length rest < 1 → text ++ text_of rest ≡ text_of program → (HasRanges rest → HasRanges program) → read_text text ≡ Ok (line_by_line program)
+printed text program [] names h whole ranges = ap read_text (sym (append-nil text) ∙ whole) ∙ text_reads program names (ranges tt)
 printed text program (s ∷ rest) names h whole ranges = absurd (omega arith)
-
-pub no_text : (bytes : Bytes) (stop : Stop) → stop ≡ NotCanonical → Gives (program_of bytes) (Err stop) → (program : List Statement) → IsTextOf bytes program → ⊥
-no_text bytes stop is h program text =
-    let G : Stop → Type 0 = λ s. Gives (program_of bytes) (Err s) in
-    none-some program (sym (subst G is h) ∙ read_law bytes program text)

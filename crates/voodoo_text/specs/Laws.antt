@@ -1,9 +1,16 @@
--- A text and its program decide each other.
-use Rattle.std.specs.Prelude.{◌≡◌, List, Some}
-use Rattle.voodoo_ops.specs.declared.op.Statement.{Statement}
-use Rattle.voodoo_text.specs.Canonical.{Bytes, text_of}
+-- A program and its canonical text decide each other.
+use Rattle.std.specs.Prelude.{◌≡◌, ℕ, List, length, Ok}
+use Rattle.std.specs.List.{range_with_len}
+use Rattle.programs.specs.declared.op.Statement.{Statement}
+use Rattle.voodoo_text.specs.Values.{Bytes}
+use Rattle.voodoo_text.specs.Canonical.{text_of}
 use Rattle.voodoo_text.specs.Spelled.{CanBeSpelled, HasRanges}
-use Rattle.voodoo_text.specs.Reading.{program_of}
+use Rattle.voodoo_text.specs.Reading.{read, read_text}
+use Rattle.voodoo_text.specs.declared.read_text.ReadProgram.{ReadProgram}
+
+-- each statement stands on a line of its own, from line 1 on
+abbrev pub line_by_line : List Statement → ReadProgram
+line_by_line program = read program (range_with_len 1 (length program))
 
 -- bytes are the canonical text of a program that can be spelled
 pub record IsTextOf (bytes : Bytes) (program : List Statement) : Type 0 where
@@ -13,6 +20,6 @@ pub record IsTextOf (bytes : Bytes) (program : List Statement) : Type 0 where
 
 pub record TextLaws : Type 0 where
   -- the text of a program is read as that program
-  pub read : (bytes : Bytes) (program : List Statement) → IsTextOf bytes program → program_of bytes ≡ Some program
-  -- and what is read is a program with that text
-  pub spelled : (bytes : Bytes) (program : List Statement) → program_of bytes ≡ Some program → IsTextOf bytes program
+  pub reads : (bytes : Bytes) (program : List Statement) → IsTextOf bytes program → read_text bytes ≡ Ok (line_by_line program)
+  -- a text that is canonical is that of the program that it is read as
+  pub one : (bytes : Bytes) (program : List Statement) (read : ReadProgram) → IsTextOf bytes program → read_text bytes ≡ Ok read → text_of read.program ≡ bytes

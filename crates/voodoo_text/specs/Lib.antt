@@ -1,8 +1,12 @@
+pub mod Kinds
+pub mod Values
+pub mod Lexis
+pub mod Tokens
+pub mod Operators
+pub mod Places
+pub mod Statements
+pub mod Reading
 pub mod Canonical
 pub mod Arguments
 pub mod Spelled
-pub mod Parts
-pub mod Values
-pub mod Outcomes
-pub mod Reading
 pub mod Laws

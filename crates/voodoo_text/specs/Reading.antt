@@ -1,86 +1,72 @@
--- The program whose canonical text some bytes are.
-use Rattle.std.specs.Prelude.{if◌then◌else◌, List, [], ◌∷◌, Option, Some, None, codes}
-use Rattle.std.specs.Option.{option_map}
-use Rattle.std.specs.Str.{bytes_eq}
-use Rattle.voodoo_ops.specs.declared.op.Op.{Op}
-use Rattle.voodoo_ops.specs.declared.op.Op.TheVariants.{Load, Persist, Range, Zip, Divide, FoldSum}
-use Rattle.voodoo_ops.specs.declared.op.PairArgs.{PairArgs}
-use Rattle.voodoo_ops.specs.declared.op.FoldArgs.{FoldArgs}
-use Rattle.voodoo_ops.specs.declared.op.Statement.{Statement}
-use Rattle.voodoo_text.specs.Canonical.{Bytes, text_of}
-use Rattle.voodoo_text.specs.Parts.{lines, words}
-use Rattle.voodoo_text.specs.Values.{◌>>=◌, only_if, name_of, path_of, size_of, operand_of, control_vector_of}
+-- The program that a text spells, with the line of each statement, or the first refusal.
+use Rattle.std.specs.Prelude.{◌≡◌, ◌≢◌, ℕ, ◌+◌, ◌==◌, Bool, List, [], ◌∷◌, ◌++◌, Result, Ok, Err, if◌then◌else◌}
+use Rattle.std.specs.List.{slice_split}
+use Rattle.std.specs.Str.{is_utf8}
+use Rattle.phrases.specs.declared.refusal.ReadError.{ReadError}
+use Rattle.phrases.specs.declared.refusal.ReadError.TheVariants as error
+use Rattle.programs.specs.declared.op.Statement.{Statement}
+use Rattle.voodoo_text.specs.declared.refusal.TextKind.{TextKind}
+use Rattle.voodoo_text.specs.declared.refusal.TextKind.TheVariants.{NotText}
+use Rattle.voodoo_text.specs.declared.refusal.TextRefusal.{TextRefusal}
+use Rattle.voodoo_text.specs.declared.refusal.TextRefusal.TheVariants.{Bad, NoMemory}
+use Rattle.voodoo_text.specs.declared.read_text.ReadProgram.{ReadProgram}
+use Rattle.voodoo_text.specs.Values.{Bytes}
+use Rattle.voodoo_text.specs.Tokens.{Token, tokens}
+use Rattle.voodoo_text.specs.Statements.{line_of}
 
--- ---- each operator, by the words between its parentheses
-abbrev pub load_of : List Bytes → Option Op
-load_of (table ∷ []) = option_map Load (name_of table)
-load_of _ = None
+abbrev pub is_feed : ℕ → Bool
+is_feed b = b == 10
 
-abbrev pub range_of : List Bytes → Option Op
-range_of (size ∷ out ∷ start ∷ step ∷ modulus ∷ divisor ∷ []) =
-    size_of size >>= λ size.
-    path_of out >>= λ out.
-    option_map (Range size out) (control_vector_of start step modulus divisor)
-range_of _ = None
+-- what stands between line feeds
+abbrev pub lines : Bytes → List Bytes
+lines = slice_split is_feed
 
-abbrev pub zip_of : List Bytes → Option Op
-zip_of (a ∷ b ∷ []) = name_of a >>= λ a. option_map (Zip a) (name_of b)
-zip_of _ = None
+abbrev pub read : List Statement → List ℕ → ReadProgram
+read statements numbers = record { program = statements; lines = numbers }
 
-abbrev pub pair_of : List Bytes → Option PairArgs
-pair_of (x ∷ y ∷ out ∷ []) =
-    operand_of x >>= λ x.
-    operand_of y >>= λ y.
-    option_map (λ out. record { x = x; y = y; out = out }) (path_of out)
-pair_of _ = None
+-- a statement in front, and the number of its line
+abbrev pub with_statement : ℕ → Statement → Result ReadProgram TextRefusal → Result ReadProgram TextRefusal
+with_statement n s (Ok r) = Ok (read (s ∷ r.program) (n ∷ r.lines))
+with_statement n s (Err e) = Err e
 
-abbrev pub fold_args_of : Bytes → Bytes → Bytes → Bytes → Option FoldArgs
-fold_args_of a val run out =
-    name_of a >>= λ a.
-    path_of val >>= λ val.
-    path_of run >>= λ run.
-    option_map (λ out. record { a = a; val = val; run = run; out = out }) (path_of out)
+abbrev pub refusal : ℕ → ReadError TextKind → TextRefusal
+refusal n (error.Refused kind left) = Bad n kind
+refusal n error.NoMemory = NoMemory
 
-abbrev pub fold_of : List Bytes → Option FoldArgs
-fold_of (a ∷ val ∷ run ∷ out ∷ []) = fold_args_of a val run out
-fold_of _ = None
+-- a line in front: its statement or its refusal, before those of the lines behind it
+abbrev pub on_line : ℕ → Result Statement (ReadError TextKind) → Result ReadProgram TextRefusal → Result ReadProgram TextRefusal
+on_line n (Ok s) others = with_statement n s others
+on_line n (Err e) others = Err (refusal n e)
 
-abbrev pub operator_of : Bytes → List Bytes → Option Op
-operator_of word arguments =
-    if bytes_eq word (codes "Load") then load_of arguments
-    else if bytes_eq word (codes "Range") then range_of arguments
-    else if bytes_eq word (codes "Zip") then zip_of arguments
-    else if bytes_eq word (codes "Divide") then option_map Divide (pair_of arguments)
-    else if bytes_eq word (codes "FoldSum") then option_map FoldSum (fold_of arguments)
-    else None
+-- a line without a token is no statement
+abbrev pub with_line : ℕ → List Token → Result ReadProgram TextRefusal → Result ReadProgram TextRefusal
+with_line n [] others = others
+with_line n (t ∷ ts) others = on_line n (line_of (t ∷ ts)) others
 
--- ---- statements
-abbrev pub statement : Bytes → Op → Statement
-statement name op = record { name = name; op = op }
+-- the lines from a number on
+abbrev pub read_lines : ℕ → List Bytes → Result ReadProgram TextRefusal
+read_lines n [] = Ok (read [] [])
+read_lines n (line ∷ others) = with_line n (tokens line) (read_lines (n + 1) others)
 
--- `name = Op(arguments)`
-abbrev pub assigned : Bytes → Bytes → Bytes → List Bytes → Option Statement
-assigned name sign word arguments =
-    if bytes_eq sign (codes "=") then (name_of name >>= λ name. option_map (statement name) (operator_of word arguments))
-    else None
+-- a text is UTF-8; lines are counted from 1
+unfoldable pub read_text : Bytes → Result ReadProgram TextRefusal
+read_text bytes = if is_utf8 bytes then read_lines 1 (lines bytes) else Err (Bad 1 NotText)
 
--- `Persist(name, vector)`
-abbrev pub persisted : Bytes → Bytes → Bytes → Option Statement
-persisted word name a =
-    if bytes_eq word (codes "Persist") then (name_of name >>= λ name. option_map (λ a. statement name (Persist a)) (name_of a))
-    else None
+-- what reading ensures: the text's answer, unless memory runs out
+abbrev pub Gives : {A : Type 0} → Result A TextRefusal → Result A TextRefusal → Type 0
+Gives answer (Ok a) = answer ≡ Ok a
+Gives answer (Err e) = e ≢ NoMemory → answer ≡ Err e
 
--- by the words of its line: three of a Persist, four or more of any other
-abbrev pub statement_of : List Bytes → Option Statement
-statement_of (word ∷ name ∷ a ∷ []) = persisted word name a
-statement_of (name ∷ sign ∷ word ∷ arguments) = assigned name sign word arguments
-statement_of _ = None
+-- ---- how the text is read line by line
 
-abbrev pub statements_of : List Bytes → Option (List Statement)
-statements_of [] = Some []
-statements_of (line ∷ lines) = statement_of (words line) >>= λ s. option_map (λ statements. s ∷ statements) (statements_of lines)
+-- what was read before some lines, and what they are read as
+abbrev pub onto : List Statement → List ℕ → Result ReadProgram TextRefusal → Result ReadProgram TextRefusal
+onto statements numbers (Ok r) = Ok (read (statements ++ r.program) (numbers ++ r.lines))
+onto statements numbers (Err e) = Err e
 
--- The statements that the lines' words spell, where the bytes are their canonical text. The words alone would not show a
--- blank too many, a leading zero or a line that does not end.
-unfoldable pub program_of : Bytes → Option (List Statement)
-program_of bytes = statements_of (lines bytes) >>= λ program. only_if (bytes_eq (text_of program) bytes) program
+-- Reading a line appends its statement, whatever stands behind it, or gives its refusal.
+abbrev pub TakesLine : ℕ → List Token → List Statement → List ℕ → Result (Unit {0}) TextRefusal → List Statement → List ℕ → Type 0
+TakesLine n ts statements numbers (Ok u) more_statements more_numbers =
+    (others : Result ReadProgram TextRefusal) → onto statements numbers (with_line n ts others) ≡ onto more_statements more_numbers others
+TakesLine n ts statements numbers (Err e) more_statements more_numbers =
+    e ≢ NoMemory → (others : Result ReadProgram TextRefusal) → with_line n ts others ≡ Err e

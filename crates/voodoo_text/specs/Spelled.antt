@@ -2,18 +2,25 @@
 use Rattle.std.specs.Prelude.{ℤ, pos, neg_ℤ, ◌^◌, ◌<◌, ◌≤ℤ◌, ◌<ℤ◌, IsTrue, List, [], ◌∷◌}
 use Rattle.control_vectors.specs.Controls.{IsAdmissible}
 use Rattle.key_paths.specs.Paths.{is_segment, IsPath}
-use Rattle.voodoo_ops.specs.declared.op.Size.{Size}
-use Rattle.voodoo_ops.specs.declared.op.Size.TheVariants as size
-use Rattle.voodoo_ops.specs.declared.op.Operand.{Operand}
-use Rattle.voodoo_ops.specs.declared.op.Operand.TheVariants as operand
-use Rattle.voodoo_ops.specs.declared.op.Op.{Op}
-use Rattle.voodoo_ops.specs.declared.op.Op.TheVariants.{Load, Persist, Range, Zip, Divide, FoldSum}
-use Rattle.voodoo_ops.specs.declared.op.Statement.{Statement}
-use Rattle.voodoo_text.specs.Canonical.{Bytes}
+use Rattle.programs.specs.declared.op.Size.{Size}
+use Rattle.programs.specs.declared.op.Size.TheVariants as size
+use Rattle.programs.specs.declared.op.Operand.{Operand}
+use Rattle.programs.specs.declared.op.Operand.TheVariants as operand
+use Rattle.programs.specs.declared.op.Op.{Op}
+use Rattle.programs.specs.declared.op.Op.TheVariants.{Load, Persist, Range, Cross, Zip, Project, Upsert, Gather, Scatter, Bucket, Partition, Materialize, Break, FoldSum, FoldMin, FoldMax, FoldSelect, FoldScan, Order, Add, Subtract, Multiply, Divide, Modulo, BitShift, Greater, Equals, LogicalAnd, LogicalOr, Fill}
+use Rattle.programs.specs.declared.op.PairArgs.{PairArgs}
+use Rattle.programs.specs.declared.op.FoldArgs.{FoldArgs}
+use Rattle.programs.specs.declared.op.RankArgs.{RankArgs}
+use Rattle.programs.specs.declared.op.Statement.{Statement}
+use Rattle.programs.specs.declared.order_keys.OrderPath.{OrderPath}
+use Rattle.voodoo_text.specs.Values.{Bytes}
 
--- ---- the names, which the types leave free
+-- ---- the names and the one range that the types leave free
 abbrev pub IsName : Bytes → Type 0
 IsName name = IsTrue (is_segment name)
+
+abbrev pub IsShift : ℤ → Type 0
+IsShift by = (neg_ℤ (pos 127) ≤ℤ by) × (by ≤ℤ pos 127)
 
 abbrev pub SizeHasName : Size → Type 0
 SizeHasName (size.Number n) = Unit {0}
@@ -23,22 +30,51 @@ abbrev pub OperandHasName : Operand → Type 0
 OperandHasName (operand.Column vector path) = IsName vector
 OperandHasName (operand.Number z) = Unit {0}
 
--- each name of an operator has the form of a path's segment
+abbrev pub PairHasNames : PairArgs → Type 0
+PairHasNames args = OperandHasName args.x × OperandHasName args.y
+
+abbrev pub RankHasNames : RankArgs → Type 0
+RankHasNames args = IsName args.a × IsName args.b
+
+-- each name of an operator has the form of a path's segment, and a shift is one of -127 to 127
 abbrev pub HasNames : Op → Type 0
 HasNames (Load table) = IsName table
 HasNames (Persist a) = IsName a
 HasNames (Range size out control) = SizeHasName size
+HasNames (Cross a p b q) = IsName a × IsName b
 HasNames (Zip a b) = IsName a × IsName b
-HasNames (Divide args) = OperandHasName args.x × OperandHasName args.y
+HasNames (Project a p q) = IsName a
+HasNames (Upsert a p b q) = IsName a × IsName b
+HasNames (Gather a b at) = IsName a × IsName b
+HasNames (Scatter a size b at) = IsName a × SizeHasName size × IsName b
+HasNames (Bucket args) = RankHasNames args
+HasNames (Partition args) = RankHasNames args
+HasNames (Materialize a) = IsName a
+HasNames (Break a) = IsName a
 HasNames (FoldSum args) = IsName args.a
+HasNames (FoldMin args) = IsName args.a
+HasNames (FoldMax args) = IsName args.a
+HasNames (FoldSelect args) = IsName args.a
+HasNames (FoldScan args) = IsName args.a
+HasNames (Order a mark out keys) = IsName a
+HasNames (Add args) = PairHasNames args
+HasNames (Subtract args) = PairHasNames args
+HasNames (Multiply args) = PairHasNames args
+HasNames (Divide args) = PairHasNames args
+HasNames (Modulo args) = PairHasNames args
+HasNames (BitShift x by out) = OperandHasName x × IsShift by
+HasNames (Greater args) = PairHasNames args
+HasNames (Equals args) = PairHasNames args
+HasNames (LogicalAnd args) = PairHasNames args
+HasNames (LogicalOr args) = PairHasNames args
+HasNames (Fill args) = PairHasNames args
+
+abbrev pub StatementHasNames : Statement → Type 0
+StatementHasNames s = IsName s.name × HasNames s.op
 
 abbrev pub CanBeSpelled : List Statement → Type 0
 CanBeSpelled [] = Unit {0}
-CanBeSpelled (s ∷ program) = (IsName s.name × HasNames s.op) × CanBeSpelled program
-
--- a number at which a control vector may start
-abbrev pub IsStart : ℤ → Type 0
-IsStart z = (neg_ℤ (pos (2 ^ 62)) ≤ℤ z) × (z ≤ℤ pos (2 ^ 62))
+CanBeSpelled (s ∷ program) = StatementHasNames s × CanBeSpelled program
 
 -- ---- the paths and numbers, whose ranges each value of the types has
 abbrev pub SizeInRange : Size → Type 0
@@ -49,13 +85,50 @@ abbrev pub OperandInRange : Operand → Type 0
 OperandInRange (operand.Column vector path) = IsPath path
 OperandInRange (operand.Number z) = (neg_ℤ (pos (2 ^ 127)) ≤ℤ z) × (z <ℤ pos (2 ^ 127))
 
+abbrev pub PairInRange : PairArgs → Type 0
+PairInRange args = OperandInRange args.x × OperandInRange args.y × IsPath args.out
+
+abbrev pub FoldInRange : FoldArgs → Type 0
+FoldInRange args = IsPath args.val × IsPath args.run × IsPath args.out
+
+abbrev pub RankInRange : RankArgs → Type 0
+RankInRange args = IsPath args.key × IsPath args.pivot × IsPath args.out
+
+abbrev pub KeysInRange : List OrderPath → Type 0
+KeysInRange [] = Unit {0}
+KeysInRange (key ∷ keys) = IsPath key.path × KeysInRange keys
+
 abbrev pub InRange : Op → Type 0
 InRange (Load table) = Unit {0}
 InRange (Persist a) = Unit {0}
 InRange (Range size out control) = SizeInRange size × IsPath out × IsAdmissible control
+InRange (Cross a p b q) = IsPath p × IsPath q
 InRange (Zip a b) = Unit {0}
-InRange (Divide args) = OperandInRange args.x × OperandInRange args.y × IsPath args.out
-InRange (FoldSum args) = IsPath args.val × IsPath args.run × IsPath args.out
+InRange (Project a p q) = IsPath p × IsPath q
+InRange (Upsert a p b q) = IsPath p × IsPath q
+InRange (Gather a b at) = IsPath at
+InRange (Scatter a size b at) = SizeInRange size × IsPath at
+InRange (Bucket args) = RankInRange args
+InRange (Partition args) = RankInRange args
+InRange (Materialize a) = Unit {0}
+InRange (Break a) = Unit {0}
+InRange (FoldSum args) = FoldInRange args
+InRange (FoldMin args) = FoldInRange args
+InRange (FoldMax args) = FoldInRange args
+InRange (FoldSelect args) = FoldInRange args
+InRange (FoldScan args) = FoldInRange args
+InRange (Order a mark out keys) = IsPath mark × IsPath out × KeysInRange keys
+InRange (Add args) = PairInRange args
+InRange (Subtract args) = PairInRange args
+InRange (Multiply args) = PairInRange args
+InRange (Divide args) = PairInRange args
+InRange (Modulo args) = PairInRange args
+InRange (BitShift x by out) = OperandInRange x × IsPath out
+InRange (Greater args) = PairInRange args
+InRange (Equals args) = PairInRange args
+InRange (LogicalAnd args) = PairInRange args
+InRange (LogicalOr args) = PairInRange args
+InRange (Fill args) = PairInRange args
 
 abbrev pub HasRanges : List Statement → Type 0
 HasRanges [] = Unit {0}

@@ -1,28 +1,18 @@
--- What one word of a line spells: a name, a path, a number, a size, an operand.
-use Rattle.std.specs.Prelude.{ℕ, ℤ, pos, neg_ℤ, ◌^◌, ◌-◌, ◌&&◌, Bool, false, nat_le, if◌then◌else◌, List, [], ◌∷◌, length, take, drop, Option, Some, None}
+-- What one token spells: a path within its limits, a number within its range.
+use Rattle.std.specs.Prelude.{ℕ, ℤ, pos, negsuc, neg_ℤ, ◌^◌, ◌&&◌, Bool, nat_le, nat_lt, if◌then◌else◌, List, [], ◌∷◌, length, drop, Option, Some, None}
 use Rattle.std.specs.Char.{is_ascii_digit}
-use Rattle.std.specs.List.{list_all, prefix_len, slice_split}
-use Rattle.std.specs.Option.{option_map, option_and_then}
+use Rattle.std.specs.List.{list_all, slice_split}
+use Rattle.std.specs.Option.{option_map}
 use Rattle.std.specs.Str.{bytes_eq}
 use Rattle.std.specs.Str.Parse.{digits_value, starts_with_minus}
 use Rattle.control_vectors.specs.Controls.{Control, control_of}
-use Rattle.key_paths.specs.Paths.{is_dot, begins_segment, is_in_segment, is_segment, path_text}
-use Rattle.voodoo_ops.specs.declared.op.Size.{Size}
-use Rattle.voodoo_ops.specs.declared.op.Size.TheVariants as size
-use Rattle.voodoo_ops.specs.declared.op.Operand.{Operand}
-use Rattle.voodoo_ops.specs.declared.op.Operand.TheVariants as operand
-use Rattle.voodoo_text.specs.Canonical.{Bytes}
+use Rattle.key_paths.specs.Paths.{is_dot, is_segment, path_text}
 
-infixl 10 ◌>>=◌
-abbrev pub ◌>>=◌ : {A B : Type 0} → Option A → (A → Option B) → Option B
-o >>= f = option_and_then f o
+abbrev pub Bytes : Type 0
+Bytes = List ℕ
 
 abbrev pub only_if : {A : Type 0} → Bool → A → Option A
 only_if test a = if test then Some a else None
-
--- a name has the form of a path's segment
-abbrev pub name_of : Bytes → Option Bytes
-name_of word = only_if (is_segment word) word
 
 -- the segments that a path's text would have: what stands between its dots, and no segment in `.`
 abbrev pub nonempty_tail : List Bytes → List Bytes
@@ -32,55 +22,35 @@ nonempty_tail parts = drop 1 parts
 abbrev pub segments_of : Bytes → List Bytes
 segments_of word = nonempty_tail (slice_split is_dot word)
 
-abbrev pub is_path : Bytes → Bool
+-- at most 8 segments, each with its form
+unfoldable pub is_path : Bytes → Bool
 is_path word =
     let segments = segments_of word in
     nat_le (length segments) 8 && (list_all is_segment segments && bytes_eq word (path_text segments))
 
-abbrev pub path_of : Bytes → Option Bytes
-path_of word = only_if (is_path word) word
-
--- a number of decimal digits alone that is at most `most`
-abbrev pub natural_of : ℕ → Bytes → Option ℕ
-natural_of most word = only_if (list_all is_ascii_digit word && nat_le (digits_value 10 word) most) (digits_value 10 word)
+-- decimal digits whose value is at most `most`
+abbrev pub digits_within : ℕ → Bytes → Option ℕ
+digits_within most digits = only_if (list_all is_ascii_digit digits && nat_le (digits_value 10 digits) most) (digits_value 10 digits)
 
 -- a number from -least to most
-abbrev pub integer_of : ℕ → ℕ → Bytes → Option ℤ
-integer_of least most word =
-    if starts_with_minus word then option_map (λ n. neg_ℤ (pos n)) (natural_of least (drop 1 word))
-    else option_map pos (natural_of most word)
+abbrev pub integer_within : ℕ → ℕ → Bytes → Option ℤ
+integer_within least most word =
+    if starts_with_minus word then option_map (λ n. neg_ℤ (pos n)) (digits_within least (drop 1 word))
+    else option_map pos (digits_within most word)
 
--- whether a word begins as a name does
-abbrev pub begins_name : Bytes → Bool
-begins_name [] = false
-begins_name (b ∷ word) = begins_segment b
+-- a number from 0 to most; zero may have a sign
+abbrev pub natural_within : ℕ → Bytes → Option ℕ
+natural_within most word =
+    if starts_with_minus word then digits_within 0 (drop 1 word)
+    else digits_within most word
 
--- a number of slots is below 2^32
-abbrev pub size_of : Bytes → Option Size
-size_of word =
-    if begins_name word then option_map size.Of (name_of word)
-    else option_map size.Number (natural_of (2 ^ 32 - 1) word)
+-- whether a number lies in -2^62..2^62
+abbrev pub is_start : ℤ → Bool
+is_start (pos n) = nat_le n (2 ^ 62)
+is_start (negsuc n) = nat_lt n (2 ^ 62)
 
--- a name, and the path that directly follows it
-abbrev pub column_of : Bytes → Option Operand
-column_of word =
-    let len = prefix_len is_in_segment word in
-    name_of (take len word) >>= λ vector. option_map (operand.Column vector) (path_of (drop len word))
-
--- a number of an operand has 128 bits
-abbrev pub operand_of : Bytes → Option Operand
-operand_of word =
-    if begins_name word then column_of word
-    else option_map operand.Number (integer_of (2 ^ 127) (2 ^ 127 - 1) word)
-
-abbrev pub some_control : ℤ → ℕ → ℕ → ℕ → Option Control
-some_control start step modulus divisor = only_if (nat_le 1 divisor) (control_of start step modulus divisor)
-
--- the four numbers of a Range, each in the range that a control vector gives it
-abbrev pub control_vector_of : Bytes → Bytes → Bytes → Bytes → Option Control
-control_vector_of start step modulus divisor =
-    integer_of (2 ^ 62) (2 ^ 62) start >>= λ start.
-    natural_of (2 ^ 31) step >>= λ step.
-    natural_of (2 ^ 31) modulus >>= λ modulus.
-    natural_of (2 ^ 31) divisor >>= λ divisor.
-    some_control start step modulus divisor
+-- the control vector of four numbers, where they are admissible
+abbrev pub admitted : ℤ → ℕ → ℕ → ℕ → Option Control
+admitted start step modulus divisor =
+    only_if (is_start start && (nat_le step (2 ^ 31) && (nat_le modulus (2 ^ 31) && (nat_le 1 divisor && nat_le divisor (2 ^ 31)))))
+    (control_of start step modulus divisor)

@@ -2,13 +2,14 @@
 
 ghost use Rattle.std.specs.Prelude.{◌≡◌, ◌++◌, codes, map, IfOk};
 ghost use Rattle.std.specs.List.{flat_map};
+ghost use Rattle.key_paths.specs.Paths.{IsPath};
 ghost use Rattle.voodoo_text.specs.Arguments.{argument_text};
-ghost use Rattle.voodoo_text.specs.Spelled.{OperandInRange, SizeInRange};
-ghost use Rattle.voodoo_text.specs.Canonical.{after_comma, call, operand_text, size_text};
+ghost use Rattle.voodoo_text.specs.Spelled.{OperandInRange, SizeInRange, KeysInRange};
+ghost use Rattle.voodoo_text.specs.Canonical.{after_comma, call, listed, operand_text, size_text, key_text};
 
 use crate::NoMemory;
 use itoa::Buffer;
-use voodoo_ops::{Operand, Size};
+use programs::{Operand, OrderPath, Size};
 
 /// What stands between two commas: a word, a vector's name directly followed by a path, or a number.
 #[derive(Clone, Copy, Debug)]
@@ -70,6 +71,19 @@ fn write_others(out: &mut Vec<u8>, arguments: &[Argument]) -> Result<(), NoMemor
     Ok(())
 }
 
+/// Appends arguments, with a comma and a blank between them.
+pub(crate) fn write_list(out: &mut Vec<u8>, arguments: &[Argument]) -> Result<(), NoMemory>
+    ensures { IfOk result (λ _. out.new.items ≡ out.old.items ++ listed (map argument_text arguments.now)) }
+{
+    match arguments {
+        [] => Ok(()),
+        [first, others @ ..] => {
+            write_argument(out, first)?;
+            write_others(out, others)
+        }
+    }
+}
+
 /// Appends `word(arguments)`.
 pub(crate) fn write_call(
     out: &mut Vec<u8>,
@@ -80,9 +94,29 @@ pub(crate) fn write_call(
 {
     out.extend_from_slice(word)?;
     out.extend_from_slice(b"(")?;
-    if let [first, others @ ..] = arguments {
-        write_argument(out, first)?;
-        write_others(out, others)?;
-    }
+    write_list(out, arguments)?;
     out.extend_from_slice(b")")
+}
+
+/// Appends a key, after a comma and a blank.
+fn write_key(out: &mut Vec<u8>, key: &OrderPath) -> Result<(), NoMemory>
+    ensures text { IfOk result (λ _. out.new.items ≡ out.old.items ++ after_comma (key_text key.now)) }
+    ensures range { IfOk result (λ _. IsPath key.now.path) }
+{
+    let sign: &[u8] = if key.descending { b", -" } else { b", +" };
+    out.extend_from_slice(sign)?;
+    out.extend_from_slice(key.path.text().as_bytes())
+}
+
+/// Appends keys, each after a comma and a blank.
+pub(crate) fn write_keys(out: &mut Vec<u8>, keys: &[OrderPath]) -> Result<(), NoMemory>
+    ensures text { IfOk result (λ _. out.new.items ≡ out.old.items ++ flat_map after_comma (map key_text keys.now)) }
+    ensures range { IfOk result (λ _. KeysInRange keys.now) }
+{
+    let mut rest = keys;
+    'keys: while let [key, others @ ..] = rest {
+        write_key(out, key)?;
+        rest = others;
+    }
+    Ok(())
 }

@@ -2,7 +2,7 @@
 
 ghost use Rattle.voodoo_text.specs.Laws.{TextLaws};
 
-/// A text and its program decide each other.
+/// A program and its canonical text decide each other.
 pub fn text_laws()
     ensures { TextLaws }
 {}

@@ -1,26 +1,27 @@
 //! Programs printed.
 
-ghost use Rattle.std.specs.Prelude.{◌≡◌, ◌++◌, codes, IfOk, Some};
-ghost use Rattle.voodoo_text.specs.Canonical.{call, operator_word, arguments as words_of, range_arguments, pair_arguments, fold_arguments, target, line, text_of, statement_text};
-ghost use Rattle.control_vectors.specs.Controls.{IsAdmissible};
-ghost use Rattle.key_paths.specs.Paths.{IsPath};
-ghost use Rattle.voodoo_text.specs.Reading.{program_of};
-ghost use Rattle.voodoo_text.specs.Spelled.{CanBeSpelled, InRange, OperandInRange, SizeInRange};
+ghost use Rattle.std.specs.Prelude.{◌≡◌, ◌++◌, Ok, IfOk};
+ghost use Rattle.voodoo_text.specs.Canonical.{call, operator_word, arguments as words_of, target, line, text_of, statement_text};
+ghost use Rattle.voodoo_text.specs.Reading.{read_text};
+ghost use Rattle.voodoo_text.specs.Laws.{line_by_line};
+ghost use Rattle.voodoo_text.specs.Spelled.{CanBeSpelled, InRange};
 
 use crate::NoMemory;
-use crate::argument::{Argument, of_operand, of_size, write_call};
-use control_vectors::ControlVector;
-use key_paths::Path;
+use crate::calls::{
+    write_fold, write_gather, write_name, write_names, write_order, write_pair, write_project,
+    write_range, write_rank, write_scatter, write_shift, write_two,
+};
+use programs::{Op, Program, Statement};
 use std::alloc::Global;
-use voodoo_ops::{FoldArgs, Op, PairArgs, Program, Size, Statement};
 
-/// The canonical text of a program each of whose names has the form of a path's segment: a letter or
-/// `_`, then letters, digits and `_`, at most 64 bytes. What is read of it is the program again. It
-/// fails only for want of memory.
+/// The canonical text of a program that can be spelled: each name has the form of a path's segment, a
+/// letter or `_`, then letters, digits and `_`, at most 64 bytes, and each shift is one of -127 to
+/// 127. What is read of it is the program again, each statement on a line of its own. It fails only
+/// for want of memory.
 pub fn program_text(alloc: Global, p: &Program) -> Result<Vec<u8>, NoMemory>
     requires { CanBeSpelled p.now }
     ensures text { IfOk result (λ v. v.items ≡ text_of p.now) }
-    ensures read { IfOk result (λ v. program_of v.items ≡ Some p.now) }
+    ensures read { IfOk result (λ v. read_text v.items ≡ Ok (line_by_line p.now)) }
 {
     let mut text = Vec::new(alloc);
     let mut rest = p.statements();
@@ -66,83 +67,47 @@ fn write_target(out: &mut Vec<u8>, name: &str, op: &Op) -> Result<(), NoMemory>
 /// Appends an operator with its arguments.
 fn write_operator<'a>(out: &mut Vec<u8>, name: &'a str, op: &'a Op) -> Result<(), NoMemory>
     ensures text { IfOk result (λ _. out.new.items ≡ out.old.items ++ call (operator_word op.now) (words_of name.now op.now)) }
-    ensures range { InRange op.now }
+    ensures range { IfOk result (λ _. InRange op.now) }
 {
     match op {
-        Op::Load { table } => write_call(out, b"Load", &[Argument::Word(table.text())]),
-        Op::Persist { a } => write_call(
-            out,
-            b"Persist",
-            &[Argument::Word(name), Argument::Word(a.text())],
-        ),
+        Op::Load { table } => write_name(out, b"Load", table),
+        Op::Persist { a } => write_names(out, b"Persist", name, a),
         Op::Range {
             size,
             out: path,
             control,
         } => write_range(out, size, path, control),
-        Op::Zip { a, b } => write_call(
-            out,
-            b"Zip",
-            &[Argument::Word(a.text()), Argument::Word(b.text())],
-        ),
-        Op::Divide(args) => write_pair(out, b"Divide", args),
+        Op::Cross { a, p, b, q } => write_two(out, b"Cross", a, p, b, q),
+        Op::Zip { a, b } => write_names(out, b"Zip", a.text(), b),
+        Op::Project { a, p, q } => write_project(out, a, p, q),
+        Op::Upsert { a, p, b, q } => write_two(out, b"Upsert", a, p, b, q),
+        Op::Gather { a, b, pos } => write_gather(out, a, b, pos),
+        Op::Scatter { a, size, b, pos } => write_scatter(out, a, size, b, pos),
+        Op::Bucket(args) => write_rank(out, b"Bucket", args),
+        Op::Partition(args) => write_rank(out, b"Partition", args),
+        Op::Materialize { a } => write_name(out, b"Materialize", a),
+        Op::Break { a } => write_name(out, b"Break", a),
         Op::FoldSum(args) => write_fold(out, b"FoldSum", args),
+        Op::FoldMin(args) => write_fold(out, b"FoldMin", args),
+        Op::FoldMax(args) => write_fold(out, b"FoldMax", args),
+        Op::FoldSelect(args) => write_fold(out, b"FoldSelect", args),
+        Op::FoldScan(args) => write_fold(out, b"FoldScan", args),
+        Op::Order {
+            a,
+            mark,
+            out: path,
+            keys,
+        } => write_order(out, a, mark, path, keys),
+        Op::Add(args) => write_pair(out, b"Add", args),
+        Op::Subtract(args) => write_pair(out, b"Subtract", args),
+        Op::Multiply(args) => write_pair(out, b"Multiply", args),
+        Op::Divide(args) => write_pair(out, b"Divide", args),
+        Op::Modulo(args) => write_pair(out, b"Modulo", args),
+        Op::BitShift { x, by, out: path } => write_shift(out, x, *by, path),
+        Op::Greater(args) => write_pair(out, b"Greater", args),
+        Op::Equals(args) => write_pair(out, b"Equals", args),
+        Op::LogicalAnd(args) => write_pair(out, b"LogicalAnd", args),
+        Op::LogicalOr(args) => write_pair(out, b"LogicalOr", args),
+        Op::Fill(args) => write_pair(out, b"Fill", args),
     }
-}
-
-/// Appends a Range.
-fn write_range<'a>(
-    out: &mut Vec<u8>,
-    size: &'a Size,
-    path: &'a Path,
-    control: &ControlVector,
-) -> Result<(), NoMemory>
-    ensures text { IfOk result (λ _. out.new.items ≡ out.old.items ++ call (codes "Range") (range_arguments size.now path.now control.now)) }
-    ensures range { SizeInRange size.now × IsPath path.now × IsAdmissible control.now }
-{
-    write_call(
-        out,
-        b"Range",
-        &[
-            of_size(size),
-            Argument::Word(path.text()),
-            Argument::Number(control.start() as i128),
-            Argument::Number(control.step() as i128),
-            Argument::Number(control.modulus() as i128),
-            Argument::Number(control.divisor() as i128),
-        ],
-    )
-}
-
-/// Appends a slot-wise operator.
-fn write_pair(out: &mut Vec<u8>, word: &[u8], args: &PairArgs) -> Result<(), NoMemory>
-    ensures text { IfOk result (λ _. out.new.items ≡ out.old.items ++ call word.now (pair_arguments args.now)) }
-    ensures range { OperandInRange args.now.x × OperandInRange args.now.y × IsPath args.now.out }
-{
-    write_call(
-        out,
-        word,
-        &[
-            of_operand(&args.x),
-            of_operand(&args.y),
-            Argument::Word(args.out.text()),
-        ],
-    )
-}
-
-/// Appends a fold.
-fn write_fold(out: &mut Vec<u8>, word: &[u8], args: &FoldArgs) -> Result<(), NoMemory>
-    ensures text { IfOk result (λ _. out.new.items ≡ out.old.items ++ call word.now (fold_arguments args.now)) }
-    ensures range { IsPath args.now.val × IsPath args.now.run × IsPath args.now.out }
-{
-    write_call(
-        out,
-        word,
-        &[
-            Argument::Word(args.a.text()),
-            Argument::Word(args.val.text()),
-            Argument::Word(args.run.text()),
-            Argument::Word(args.out.text()),
-        ],
-    )
 }

@@ -1,7 +1,7 @@
 use Rattle.std.proofs.Common.{◌<◌, ap, arith, length, subst}
 use Rattle.std.specs.Io.KnownBytes.{Appends}
 use Rattle.std.proofs.KnownBytes.{Appends-trans}
-use Rattle.voodoo_ops.specs.Vectors.{seen, seen_all}
+use Rattle.programs.specs.Vectors.{seen, seen_all}
 use Rattle.row_print.proofs.Growing.{on_err, prefix_next}
 use Rattle.row_print.proofs.Rows.{results_more, results_split, seen_at, seen_length}
 use Rattle.row_print.proofs.results.write_results.Goals as goal

@@ -1,6 +1,6 @@
 use Rattle.std.proofs.Common.{◌≤◌, take}
 use Rattle.std.specs.Io.KnownBytes.{Appends}
-use Rattle.voodoo_ops.specs.Vectors.{seen_all}
+use Rattle.programs.specs.Vectors.{seen_all}
 use Rattle.row_print.specs.Results.{results_text}
 use Rattle.row_print.proofs.results.write_results.Given as goal
 

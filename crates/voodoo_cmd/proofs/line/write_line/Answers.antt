@@ -41,16 +41,22 @@ pub returns-in-Overflow-clause-prefix : goal.returns-in-Overflow-clause-prefix
 returns-in-Overflow-clause-prefix g c = rw c.in-Overflow.is c.write_all-in-Overflow.ensures.prefix
 
 pub returns-in-SchemaRefused-clause-whole : goal.returns-in-SchemaRefused-clause-whole
-returns-in-SchemaRefused-clause-whole g c = rw (c.in-SchemaRefused.is, ← c.schema_cause_name.ensures) c.write_byte_line.ensures.whole
+returns-in-SchemaRefused-clause-whole g c = rw (c.in-SchemaRefused.is, ← c.schema_cause_name.ensures) c.write_place_line.ensures.whole
 
 pub returns-in-SchemaRefused-clause-prefix : goal.returns-in-SchemaRefused-clause-prefix
-returns-in-SchemaRefused-clause-prefix g c = rw (c.in-SchemaRefused.is, ← c.schema_cause_name.ensures) c.write_byte_line.ensures.prefix
+returns-in-SchemaRefused-clause-prefix g c = rw (c.in-SchemaRefused.is, ← c.schema_cause_name.ensures) c.write_place_line.ensures.prefix
 
 pub returns-in-QueryRefused-clause-whole : goal.returns-in-QueryRefused-clause-whole
-returns-in-QueryRefused-clause-whole g c = rw (c.in-QueryRefused.is, ← c.query_cause_name.ensures) c.write_byte_line-in-QueryRefused.ensures.whole
+returns-in-QueryRefused-clause-whole g c = rw (c.in-QueryRefused.is, ← c.query_cause_name.ensures) c.write_place_line-in-QueryRefused.ensures.whole
 
 pub returns-in-QueryRefused-clause-prefix : goal.returns-in-QueryRefused-clause-prefix
-returns-in-QueryRefused-clause-prefix g c = rw (c.in-QueryRefused.is, ← c.query_cause_name.ensures) c.write_byte_line-in-QueryRefused.ensures.prefix
+returns-in-QueryRefused-clause-prefix g c = rw (c.in-QueryRefused.is, ← c.query_cause_name.ensures) c.write_place_line-in-QueryRefused.ensures.prefix
 
 pub returns-in-Overflow-clause-whole : goal.returns-in-Overflow-clause-whole
 returns-in-Overflow-clause-whole g c = rw c.in-Overflow.is c.write_all-in-Overflow.ensures.whole
+
+pub returns-in-AlgebraRefused-clause-whole : goal.returns-in-AlgebraRefused-clause-whole
+returns-in-AlgebraRefused-clause-whole g c = rw (c.in-AlgebraRefused.is, ← c.algebra_cause_name.ensures) c.write_place_line-in-AlgebraRefused.ensures.whole
+
+pub returns-in-AlgebraRefused-clause-prefix : goal.returns-in-AlgebraRefused-clause-prefix
+returns-in-AlgebraRefused-clause-prefix g c = rw (c.in-AlgebraRefused.is, ← c.algebra_cause_name.ensures) c.write_place_line-in-AlgebraRefused.ensures.prefix

@@ -7,4 +7,4 @@ use Rattle.voodoo_cmd.proofs.query_step.query_answer.Goals as goal
 
 pub returns-clause-text : goal.returns-clause-text
 returns-clause-text g c =
-    then_if_any (λ (v : Vec ℕ). v.items) (g.S.Shelf.holds c.args.shelf.now) (λ files. query_in files c.args.file.now) c.in_ok-query.query (query_text c.args.db.now) c.answered.result c.in_ok-query.ensures.query c.answered.ensures.text
+    then_if_any (λ (v : Vec ℕ). v.items) (g.S.Shelf.holds c.args.shelf.now) (λ files. query_in files c.args.file.now c.args.db.now.defs) c.in_ok-query.query (query_text c.args.db.now) c.answered.result (rw c.requires.defs c.in_ok-query.ensures.query) c.answered.ensures.text

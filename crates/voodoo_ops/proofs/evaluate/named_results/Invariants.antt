@@ -1,5 +1,5 @@
-use Rattle.voodoo_ops.specs.Outlines.{env_in}
-use Rattle.voodoo_ops.specs.Vectors.{seen_all}
+use Rattle.voodoo_ops.specs.Envs.{env_in}
+use Rattle.programs.specs.Vectors.{seen_all}
 use Rattle.voodoo_ops.proofs.Evaluated.{Naming}
 use Rattle.voodoo_ops.proofs.evaluate.named_results.Given as goal
 

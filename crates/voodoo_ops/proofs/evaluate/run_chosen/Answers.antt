@@ -1,5 +1,5 @@
-use Rattle.voodoo_ops.specs.Outlines.{env_in}
-use Rattle.voodoo_ops.specs.Vectors.{tables}
+use Rattle.voodoo_ops.specs.Envs.{env_in}
+use Rattle.programs.specs.Vectors.{tables}
 use Rattle.voodoo_ops.proofs.Evaluated.{going_start, going_fits, going_on, going_off}
 use Rattle.voodoo_ops.proofs.evaluate.run_chosen.Goals as goal
 use Rattle.voodoo_ops.proofs.evaluate.run_chosen.Goals.{then-marks-i+in_ok-made, else-marks-i}

@@ -1,5 +1,5 @@
-use Rattle.voodoo_ops.specs.Outlines.{env_in}
-use Rattle.voodoo_ops.specs.Vectors.{tables}
+use Rattle.voodoo_ops.specs.Envs.{env_in}
+use Rattle.programs.specs.Vectors.{tables}
 use Rattle.voodoo_ops.proofs.Evaluated.{Going}
 use Rattle.voodoo_ops.proofs.evaluate.run_chosen.Given as goal
 

@@ -1,9 +1,11 @@
 use Rattle.std.proofs.Common.{◌≡◌, ◌<◌, ◌≤◌, ap, ◌∙◌, sym, arith, ◌||◌, Bool, List, [], get_or, take, length}
 use Rattle.std.specs.List.{list_any}
 use Rattle.std.proofs.lemmas.List.{take_all}
-use Rattle.voodoo_ops.specs.Vectors.{Attribute, Label, seen_attributes}
-use Rattle.voodoo_ops.specs.Runs.{below, differs, changes_below}
-use Rattle.voodoo_ops.proofs.Marks.{marks_are}
+use Rattle.programs.specs.Mentions.{Label}
+use Rattle.programs.specs.Vectors.{Attribute, seen_attributes}
+use Rattle.voodoo_ops.specs.Attributes.{below}
+use Rattle.voodoo_ops.specs.Runs.{differs, changes_below}
+use Rattle.voodoo_ops.proofs.RunMarks.{marks_are}
 use Rattle.voodoo_ops.proofs.RunMarks.{changes_more, length_seen, length_paths}
 use Rattle.voodoo_ops.proofs.run_marks.mark_runs.Goals as goal
 

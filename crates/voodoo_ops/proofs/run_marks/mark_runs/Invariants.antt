@@ -1,7 +1,8 @@
 use Rattle.std.proofs.Common.{◌≡◌, ℕ, ◌<◌, true, false, length, take, get_or}
 use Rattle.std.specs.List.{list_any}
-use Rattle.voodoo_ops.specs.Vectors.{seen_attributes}
-use Rattle.voodoo_ops.specs.Runs.{below, differs}
+use Rattle.programs.specs.Vectors.{seen_attributes}
+use Rattle.voodoo_ops.specs.Attributes.{below}
+use Rattle.voodoo_ops.specs.Runs.{differs}
 use Rattle.voodoo_ops.proofs.run_marks.mark_runs.Given as goal
 
 abbrev pub invariant-loop-k : goal.invariant-loop-k

@@ -1,6 +1,6 @@
 use Rattle.std.proofs.Common.{◌≡◌, ◌++◌, ◌+◌, ◌-◌, ◌≤◌, drop, length}
-use Rattle.voodoo_ops.specs.Merges.{merged}
-use Rattle.voodoo_ops.specs.Outlines.{earlier, fronts}
+use Rattle.programs.specs.Merges.{merged}
+use Rattle.voodoo_ops.specs.Columns.{earlier, fronts}
 use Rattle.voodoo_ops.proofs.zip.merged_attributes.Given as goal
 
 abbrev pub invariant-loop-i : goal.invariant-loop-i

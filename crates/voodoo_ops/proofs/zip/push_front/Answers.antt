@@ -1,6 +1,6 @@
 use Rattle.std.proofs.Common.{ap, ◌∙◌, arith, ◌++◌, ◌∷◌, []}
 use Rattle.struct_vectors.specs.Columns.{ColumnValue}
-use Rattle.voodoo_ops.specs.Vectors.{Label}
+use Rattle.programs.specs.Mentions.{Label}
 use Rattle.voodoo_ops.proofs.Zips.{front_at, column_long}
 use Rattle.voodoo_ops.proofs.zip.push_front.Goals as goal
 

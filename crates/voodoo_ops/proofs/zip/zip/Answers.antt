@@ -1,6 +1,7 @@
 use Rattle.std.proofs.Common.{◌≡◌, ◌<◌, ◌+◌, ◌^◌, min, length, ap, ◌∙◌, arith, List}
 use Rattle.struct_vectors.specs.Vectors.{paths_of, vector_of}
-use Rattle.voodoo_ops.specs.Vectors.{Label, seen}
+use Rattle.programs.specs.Mentions.{Label}
+use Rattle.programs.specs.Vectors.{seen}
 use Rattle.voodoo_ops.proofs.Zips.{both_shaped, seen-both}
 use Rattle.voodoo_ops.proofs.zip.zip.Goals as goal
 

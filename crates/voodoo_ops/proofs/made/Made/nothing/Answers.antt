@@ -1,4 +1,4 @@
-use Rattle.voodoo_ops.proofs.Places.{within_none}
+use Rattle.programs.proofs.Places.{within_none}
 use Rattle.voodoo_ops.proofs.made.Made.nothing.Goals as goal
 
 pub invariant_of-result : goal.invariant_of-result

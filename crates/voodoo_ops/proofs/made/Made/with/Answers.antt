@@ -1,6 +1,7 @@
 use Rattle.std.proofs.Common.{◌≡◌, ap, ◌∙◌, arith, length}
-use Rattle.voodoo_ops.specs.Indexes.{noted, places_of}
-use Rattle.voodoo_ops.proofs.Places.{env_more, within_pushed}
+use Rattle.programs.specs.Indexes.{noted, places_of}
+use Rattle.programs.proofs.Places.{within_pushed}
+use Rattle.voodoo_ops.proofs.Envs.{env_more}
 use Rattle.voodoo_ops.proofs.made.Made.with.Goals as goal
 
 pub invariant_of-result : goal.invariant_of-result

@@ -1,0 +1,7 @@
+use Rattle.std.proofs.Common.{◌≡◌, take}
+use Rattle.programs.specs.Vectors.{seen_attributes}
+use Rattle.voodoo_ops.specs.Moves.{moved_to}
+use Rattle.voodoo_ops.proofs.moves.attributes_at.Given as goal
+
+abbrev pub invariant-loop-k : goal.invariant-loop-k
+invariant-loop-k l = seen_attributes l.attributes.items ≡ moved_to l.places.slots (seen_attributes (take l.k l.v.attributes))

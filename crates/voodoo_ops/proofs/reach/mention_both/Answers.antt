@@ -1,7 +1,0 @@
-use Rattle.std.proofs.Common.{◌∷◌, []}
-use Rattle.voodoo_ops.specs.Indexes.{places_of}
-use Rattle.voodoo_ops.proofs.Marks.{wants_both}
-use Rattle.voodoo_ops.proofs.reach.mention_both.Goals as goal
-
-pub returns : goal.returns
-returns c = wants_both (places_of c.args.wanted) _ _ (c.args.a.now ∷ []) (c.args.b.now ∷ []) c.in_ok-first.ensures c.in_ok-now.ensures

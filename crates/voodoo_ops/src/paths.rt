@@ -1,0 +1,64 @@
+//! Paths with another beginning, and two ascending lists of paths as one.
+
+ghost use Rattle.std.specs.Prelude.{◌≡◌, ◌≤◌, ◌++◌, true, length, string_bytes, IfOk};
+ghost use Rattle.key_paths.specs.Paths.{IsPath};
+ghost use Rattle.key_paths.specs.Substructures.{is_at_or_below};
+ghost use Rattle.programs.specs.Merges.{LeavesSome, TakesSecond};
+ghost use Rattle.programs.specs.Moves as spec;
+ghost use Rattle.programs.specs.Moves.{moved, path_of};
+ghost use Rattle.programs.specs.Parts.{MovesTo};
+
+use crate::NoMemory;
+use key_paths::{Path, PathRefusal};
+use std::alloc::{AllocError, Global};
+
+/// What a path's further segments stand behind: its text, and nothing for the root.
+fn stem(p: &Path) -> &str
+    ensures value { result.now ≡ spec.stem p.now }
+    ensures path { IsPath p.now }
+    ensures short { length result.now ≤ 520 }
+{
+    if p.is_root() { "" } else { p.text() }
+}
+
+/// The path of a stem in two parts: where both are empty, the root.
+fn joined(alloc: Global, front: &str, rest: &str) -> Result<String, NoMemory>
+    ensures { IfOk result (λ text. string_bytes text ≡ path_of (front.now ++ rest.now)) }
+{
+    if front.is_empty() && rest.is_empty() {
+        return String::from_str(alloc, ".");
+    }
+    let mut text = String::from_str(alloc, front)?;
+    text.push_str(rest)?;
+    Ok(text)
+}
+
+/// A path at or below `p`, with `q` in place of `p` at its start; `None` where that has more than
+/// eight segments.
+pub(crate) fn moved_path(
+    alloc: Global,
+    x: &Path,
+    p: &Path,
+    q: &Path,
+) -> Result<Option<Path>, NoMemory>
+    requires { is_at_or_below x.now p.now ≡ true }
+    ensures { IfOk result (λ o. MovesTo o (moved p.now q.now x.now)) }
+{
+    let Some(rest) = stem(x).strip_prefix(stem(p)) else {
+        unreachable!()
+    };
+    let text = joined(alloc, stem(q), rest)?;
+    match Path::read(alloc, text.as_str()) {
+        Ok(path) => Ok(Some(path)),
+        Err(PathRefusal::Bad { .. }) => Ok(None),
+        Err(PathRefusal::NoMemory) => Err(AllocError),
+    }
+}
+
+/// Whether the second list's path comes first of those that are left.
+pub(crate) fn takes_second(a: &[Path], i: usize, b: &[Path], j: usize) -> bool
+    requires { LeavesSome i a.now j b.now }
+    ensures { TakesSecond i a.now j b.now result }
+{
+    j < b.len() && (i >= a.len() || b[j] < a[i])
+}

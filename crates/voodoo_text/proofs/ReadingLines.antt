@@ -1,0 +1,80 @@
+-- A text is read line by line.
+use Rattle.std.proofs.Common.{◌≡◌, ℕ, suc, ◌+◌, ◌-◌, ◌<◌, ◌≤◌, Bool, true, false, not, List, [], ◌∷◌, ◌++◌, length, take, drop, get_or, refl, ap, sym, ◌∙◌, subst, arith, append_assoc, append-nil}
+use Rattle.std.specs.Prelude.{Result, Ok, Err, ◌==◌, if◌then◌else◌}
+use Rattle.std.specs.Str.{IsUtf8, is_utf8}
+use Rattle.std.proofs.lemmas.Str.{is_utf8-from_IsUtf8, IsUtf8-from_is_utf8}
+use Rattle.std.specs.List.{All, slice_split, position_or_len}
+use Rattle.std.proofs.lemmas.Bool.{not-true}
+use Rattle.std.proofs.lemmas.List.{take_all}
+use Rattle.std.proofs.lemmas.List.Sums.{prefix_len_passes}
+use Rattle.std.proofs.lemmas.List.Splits.{slice_split_none, slice_split_first}
+use Rattle.phrases.specs.declared.refusal.ReadError.{ReadError}
+use Rattle.programs.specs.declared.op.Statement.{Statement}
+use Rattle.voodoo_text.specs.declared.refusal.TextKind.{TextKind}
+use Rattle.voodoo_text.specs.declared.refusal.TextRefusal.{TextRefusal}
+use Rattle.voodoo_text.specs.declared.refusal.TextRefusal.TheVariants.{Bad}
+use Rattle.voodoo_text.specs.declared.refusal.TextKind.TheVariants.{NotText}
+use Rattle.voodoo_text.specs.declared.read_text.ReadProgram.{ReadProgram}
+use Rattle.voodoo_text.specs.Values.{Bytes}
+use Rattle.voodoo_text.specs.Tokens.{Token, tokens}
+use Rattle.voodoo_text.specs.Statements.{line_of}
+use Rattle.voodoo_text.specs.Spelled.{CanBeSpelled, StatementHasNames}
+use Rattle.voodoo_text.specs.Reading.{is_feed, lines, read, refusal, with_statement, on_line, with_line, read_lines, read_text, onto, Gives}
+
+-- ---- the first line
+
+far : (bytes : Bytes) → length bytes ≤ position_or_len is_feed bytes → All (λ b. is_feed b ≡ false) bytes
+far bytes h = λ k d below. not-true (is_feed (get_or bytes k d)) (prefix_len_passes (λ b. not (is_feed b)) bytes k d (omega arith))
+
+pub cut_at : (bytes : Bytes) (len n : ℕ) → len ≡ position_or_len is_feed bytes → len < length bytes
+    → read_lines n (lines bytes) ≡ with_line n (tokens (take len bytes)) (read_lines (n + 1) (lines (drop (len + 1) bytes)))
+cut_at bytes len n is below =
+    let within : position_or_len is_feed bytes < length bytes = omega arith in
+    let split : lines bytes ≡ take len bytes ∷ lines (drop (len + 1) bytes) = rw is (slice_split_first is_feed bytes 0 within) in
+    ap (read_lines n) split
+
+pub cut_none : (bytes : Bytes) (len n : ℕ) → len ≡ position_or_len is_feed bytes → length bytes ≤ len
+    → read_lines n (lines bytes) ≡ with_line n (tokens (take len bytes)) (read_lines (n + 1) (lines []))
+cut_none bytes len n is above =
+    let one : lines bytes ≡ bytes ∷ [] = slice_split_none is_feed bytes (far bytes (omega arith)) in
+    ap (read_lines n) one ∙ ap (λ (z : Bytes). with_line n (tokens z) (Ok (read [] []))) (sym (take_all len bytes above))
+
+-- ---- what a line appends
+
+pub onto_statement : (n : ℕ) (s : Statement) (ss : List Statement) (ns : List ℕ) (others : Result ReadProgram TextRefusal)
+    → onto ss ns (with_statement n s others) ≡ onto (ss ++ s ∷ []) (ns ++ n ∷ []) others
+onto_statement n s ss ns (Ok r) = ap (λ (xs : List Statement). Ok (read xs (ns ++ n ∷ r.lines))) (sym (append_assoc ss (s ∷ []) r.program)) ∙ ap (λ (xs : List ℕ). Ok (read ((ss ++ s ∷ []) ++ r.program) xs)) (sym (append_assoc ns (n ∷ []) r.lines))
+onto_statement n s ss ns (Err e) = refl
+
+pub with_some : (n : ℕ) (ts : List Token) (r : Result Statement (ReadError TextKind)) (others : Result ReadProgram TextRefusal) → (ts ≡ [] → ⊥) → line_of ts ≡ r → with_line n ts others ≡ on_line n r others
+with_some n [] r others some h = absurd (some refl)
+with_some n (t ∷ ts) r others some h = ap (λ x. on_line n x others) h
+
+pub spelled_more : (ss : List Statement) (s : Statement) → StatementHasNames s → CanBeSpelled ss → CanBeSpelled (ss ++ s ∷ [])
+spelled_more [] s h names = (h, tt)
+spelled_more (x ∷ ss) s h names = (names.0, spelled_more ss s h names.1)
+
+pub onto_nothing : (r : Result ReadProgram TextRefusal) → onto [] [] r ≡ r
+onto_nothing (Ok r) = refl
+onto_nothing (Err e) = refl
+
+pub onto_end : (n : ℕ) (ss : List Statement) (ns : List ℕ) (rest : Bytes) → length rest < 1 → onto ss ns (read_lines n (lines rest)) ≡ Ok (read ss ns)
+onto_end n ss ns [] h = ap (λ (xs : List Statement). Ok (read xs (ns ++ []))) (append-nil ss) ∙ ap (λ (xs : List ℕ). Ok (read ss xs)) (append-nil ns)
+onto_end n ss ns (b ∷ rest) h = absurd (omega arith)
+
+-- ---- the whole text
+
+pub text_is : (bytes : Bytes) → IsUtf8 bytes → read_text bytes ≡ read_lines 1 (lines bytes)
+unfolding read_text
+text_is bytes h = rw (is_utf8-from_IsUtf8 bytes h) refl
+
+pub no_text : (bytes : Bytes) → (IsUtf8 bytes → ⊥) → read_text bytes ≡ Err (Bad 1 NotText)
+unfolding read_text
+no_text bytes none = by_test (is_utf8 bytes) (λ h. none (IsUtf8-from_is_utf8 bytes h))
+  where
+    by_test : (t : Bool) → (t ≡ true → ⊥) → (if t then read_lines 1 (lines bytes) else Err (Bad 1 NotText)) ≡ Err (Bad 1 NotText)
+    by_test true not = absurd (not refl)
+    by_test false not = refl
+
+pub gives_same : (a b : Result ReadProgram TextRefusal) (r : Result ReadProgram TextRefusal) → a ≡ b → Gives b r → Gives a r
+gives_same a b r e h = let G : Result ReadProgram TextRefusal → Type 0 = λ x. Gives x r in subst G (sym e) h
