@@ -1,0 +1,1 @@
+CREATE TABLE sales (region VARCHAR(10) NOT NULL, amount INTEGER NOT NULL);

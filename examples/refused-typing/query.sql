@@ -1,0 +1,1 @@
+SELECT customer, SUM(total) FROM orders
