@@ -37,7 +37,10 @@ fn joined(alloc: Global, front: &str, rest: &str) -> Result<String, NoMemory>
 
 /// A path at or below `p`, with `q` in place of `p` at its start; `None` where that has more than
 /// eight segments.
-fn moved_path(alloc: Global, x: &Path, p: &Path, q: &Path) -> Result<Option<Path>, NoMemory>
+///
+/// # Errors
+/// `NoMemory` where the new path's text cannot be had.
+pub fn moved_path(alloc: Global, x: &Path, p: &Path, q: &Path) -> Result<Option<Path>, NoMemory>
     requires { is_at_or_below x.now p.now ≡ true }
     ensures { IfOk result (λ o. MovesTo o (moved p.now q.now x.now)) }
 {

@@ -56,8 +56,9 @@ pub(crate) fn merged_paths(alloc: Global, a: &[Path], b: &[Path]) -> Result<Vec<
     Ok(paths)
 }
 
-/// Whether the second list's path comes first of those that are left.
-pub(crate) fn takes_second(a: &[Path], i: usize, b: &[Path], j: usize) -> bool
+/// Whether the second of two ascending lists has the first of the paths that are left, from place `i`
+/// of the first list and place `j` of the second; of equal paths the first list's comes first.
+pub fn takes_second(a: &[Path], i: usize, b: &[Path], j: usize) -> bool
     requires { LeavesSome i a.now j b.now }
     ensures { TakesSecond i a.now j b.now result }
 {

@@ -18,10 +18,10 @@ ghost use Rattle.voodoo_ops.specs.Reading.{HasAttribute};
 
 use crate::NoMemory;
 use crate::made::Made;
-use crate::paths::moved_path;
 use crate::reading::{attribute, vector};
 use io_edge::Name;
 use key_paths::Path;
+use programs::moving::moved_path;
 use slot_columns::{ColumnBuilder, Stop};
 use slot_wise::Source;
 use slot_wise::source::slot_of;

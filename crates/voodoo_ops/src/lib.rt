@@ -15,7 +15,6 @@ mod folds;
 pub mod laws;
 mod made;
 mod moves;
-mod paths;
 mod ranges;
 mod reading;
 pub mod results;

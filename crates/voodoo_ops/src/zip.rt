@@ -12,10 +12,10 @@ ghost use Rattle.voodoo_ops.specs.Envs.{env_in};
 
 use crate::NoMemory;
 use crate::made::Made;
-use crate::paths::takes_second;
 use crate::reading::vector;
 use io_edge::Name;
 use key_paths::Path;
+use programs::ordered::takes_second;
 use slot_columns::Stop;
 use std::alloc::{AllocError, Global};
 use struct_vectors::{Column, StructVector};
