@@ -8,3 +8,9 @@ pub mod Lexing
 pub mod Spelling
 pub mod RoundTrip
 pub mod ReadingLines
+pub mod OneToken
+pub mod Rules
+pub mod TokenRules
+pub mod LineRules
+pub mod WholeLines
+pub mod LineLaws

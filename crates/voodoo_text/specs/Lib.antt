@@ -9,4 +9,7 @@ pub mod Reading
 pub mod Canonical
 pub mod Arguments
 pub mod Spelled
+pub mod PlaceGrammar
+pub mod Grammar
+pub mod GrammarLaws
 pub mod Laws

@@ -1,0 +1,56 @@
+-- A line is read as the statement that the grammar gives its tokens, or refused at the first token that cannot stand.
+use Rattle.std.specs.Prelude.{◌≡◌, ℕ, List, [], ◌∷◌, ◌++◌, length, Option, Some, None, Ok, Err}
+use Rattle.phrases.specs.declared.refusal.ReadError.{ReadError}
+use Rattle.phrases.specs.declared.refusal.ReadError.TheVariants.{Refused, NoMemory}
+use Rattle.phrases.specs.Promise.{Begins, EndsNone, GoesOn}
+use Rattle.programs.specs.declared.op.Statement.{Statement}
+use Rattle.voodoo_text.specs.declared.kind.Kind.{Kind}
+use Rattle.voodoo_text.specs.declared.kind.Kind.TheVariants as k
+use Rattle.voodoo_text.specs.declared.refusal.TextKind.{TextKind}
+use Rattle.voodoo_text.specs.declared.refusal.TextKind.TheVariants.{NotText, BadToken, Unexpected, BadNumber, NotAdmissible}
+use Rattle.voodoo_text.specs.Tokens.{Token}
+use Rattle.voodoo_text.specs.Statements.{line_of}
+use Rattle.voodoo_text.specs.PlaceGrammar.{ranges, order_alone}
+use Rattle.voodoo_text.specs.Grammar.{line}
+
+-- the next token is of this kind
+abbrev pub NextIs : Kind → List Token → Type 0
+NextIs kind [] = ⊥
+NextIs kind (t ∷ rest) = t.kind ≡ kind
+
+-- Why a line cannot go on so. BadToken: the next token is none. BadNumber: it is a number, and with it a line goes on where ranges are
+-- not asked. Unexpected: it is any other token, or the end, and begins no line even where ranges are not asked.
+-- NotAdmissible is said of a whole line.
+abbrev pub Why : TextKind → List Token → List Token → Type 0
+Why BadToken before rest = NextIs k.Bad rest × EndsNone (line ranges) before rest
+Why BadNumber before rest = NextIs k.Number rest × EndsNone (line ranges) before rest × GoesOn (line order_alone) before rest
+Why Unexpected before rest = (NextIs k.Bad rest → ⊥) × EndsNone (line ranges) before rest × EndsNone (line order_alone) before rest
+Why NotAdmissible before rest = (rest ≡ []) × line ranges before None
+Why NotText before rest = ⊥
+
+-- The first token, or the end, at which the line is refused; `left` counts the tokens from it on. The tokens before it begin a line.
+pub record IsFirstRefusal (ts : List Token) (kind : TextKind) (left : ℕ) : Type 0 where
+  pub before : List Token
+  pub rest : List Token
+  pub cut : ts ≡ before ++ rest
+  pub place : left ≡ length rest
+  pub begins : Begins (line ranges) before
+  pub why : Why kind before rest
+
+abbrev pub IsLineRefusal : List Token → ReadError TextKind → Type 0
+IsLineRefusal ts NoMemory = ⊥
+IsLineRefusal ts (Refused kind left) = IsFirstRefusal ts kind left
+
+pub record LineLaws : Type 0 where
+  -- what is read is spelled
+  pub found : (ts : List Token) (s : Statement) → line_of ts ≡ Ok s → line ranges ts (Some s)
+  -- what is spelled is read
+  pub only : (ts : List Token) (s : Statement) → line ranges ts (Some s) → line_of ts ≡ Ok s
+  -- a Range that is not admissible is refused as such
+  pub none : (ts : List Token) → line ranges ts None → line_of ts ≡ Err (Refused NotAdmissible 0)
+  -- a refusal is the first
+  pub refused : (ts : List Token) (e : ReadError TextKind) → line_of ts ≡ Err e → IsLineRefusal ts e
+  -- a refused line spells no statement
+  pub never_both : (ts : List Token) (e : ReadError TextKind) (s : Statement) → line_of ts ≡ Err e → line ranges ts (Some s) → ⊥
+  -- a line spells one thing
+  pub one : (ts : List Token) (s t : Option Statement) → line ranges ts s → line ranges ts t → s ≡ t
