@@ -13,4 +13,5 @@ pub mod Rules
 pub mod TokenRules
 pub mod LineRules
 pub mod WholeLines
+pub mod FirstRefusals
 pub mod LineLaws

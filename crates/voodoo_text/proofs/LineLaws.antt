@@ -1,8 +1,8 @@
 -- A line is read as the statement that it spells, or refused at the first token that cannot stand.
-use Rattle.std.proofs.Common.{◌≡◌, List, [], ◌∷◌, refl, ap, sym, ◌∙◌, subst, ◌⊎◌, inl, inr, ⊎_elim, append-nil}
+use Rattle.std.proofs.Common.{◌≡◌, ℕ, List, [], ◌∷◌, refl, ap, sym, ◌∙◌, subst, ◌⊎◌, inl, inr, ⊎_elim, append-nil}
 use Rattle.std.specs.Prelude.{Option, Some, None, Result, Ok, Err}
 use Rattle.phrases.specs.declared.refusal.ReadError.{ReadError}
-use Rattle.phrases.specs.declared.refusal.ReadError.TheVariants.{Refused}
+use Rattle.phrases.specs.declared.refusal.ReadError.TheVariants.{NoMemory, Refused}
 use Rattle.phrases.specs.Parsers.{Outcome, and_then, ended}
 use Rattle.phrases.proofs.Good.{free}
 use Rattle.phrases.proofs.Easing.{Whole, Still, same_cut, read_sound, read_complete, no_text, read_refuses, goes_on, still_refused}
@@ -16,6 +16,7 @@ use Rattle.voodoo_text.specs.PlaceGrammar.{ranges, order_alone}
 use Rattle.voodoo_text.specs.Grammar.{line}
 use Rattle.voodoo_text.specs.GrammarLaws.{Why, IsFirstRefusal, IsLineRefusal, LineLaws}
 use Rattle.voodoo_text.proofs.OneToken.{Says}
+use Rattle.voodoo_text.proofs.FirstRefusals.{spells, one_refusal}
 use Rattle.voodoo_text.proofs.WholeLines.{every, closing, whole, rule_whole}
 
 -- ---- the answer of a line, by the parser of whole lines
@@ -117,12 +118,24 @@ refuses ts e h = ⊎_elim
     (λ x. first_refusal ts e x)
     (answered_err (read ts) e (line_is ts ∙ h))
 
+first : (ts : List Token) (kind : TextKind) (left : ℕ) → IsFirstRefusal ts kind left → line_of ts ≡ Err (Refused kind left)
+first ts kind left x = by_answer (line_of ts) refl
+  where
+    by_answer : (r : Result Statement (ReadError TextKind)) → line_of ts ≡ r → line_of ts ≡ Err (Refused kind left)
+    by_answer (Ok s) e =
+        let l = spelled ts (Some s) (answered_ok (read ts) s (line_is ts ∙ e)) in
+        let none = read_as ts None (spells ts kind left (Some s) x l) in
+        absurd (cc)
+    by_answer (Err NoMemory) e = absurd (refuses ts NoMemory e)
+    by_answer (Err (Refused said n)) e = e ∙ ap (λ d. Err d) (one_refusal ts said kind n left (refuses ts (Refused said n) e) x)
+
 pub line_laws : LineLaws
 line_laws = record {
   found = λ ts s h. spelled ts (Some s) (answered_ok (read ts) s (line_is ts ∙ h));
   only = λ ts s l. read_as ts (Some s) l;
   none = λ ts l. read_as ts None l;
   refused = refuses;
+  first = first;
   never_both = λ ts e s h l. let r = read_as ts (Some s) l in absurd (cc);
   one = λ ts s t l m. let a = reads ts s l in let b = reads ts t m in cc;
 }

@@ -18,9 +18,9 @@ abbrev pub NextIs : Kind → List Token → Type 0
 NextIs kind [] = ⊥
 NextIs kind (t ∷ rest) = t.kind ≡ kind
 
--- Why a line cannot go on so. BadToken: the next token is none. BadNumber: it is a number, and with it a line goes on where ranges are
--- not asked. Unexpected: it is any other token, or the end, and begins no line even where ranges are not asked.
--- NotAdmissible is said of a whole line.
+-- Why the next token, or the end, cannot stand there. BadToken: what stands there is no token. BadNumber: it is a number, with which
+-- a line goes on where ranges are not asked. Unexpected: it is anything else, with which none goes on even then.
+-- NotAdmissible is said of a whole line, which spells none.
 abbrev pub Why : TextKind → List Token → List Token → Type 0
 Why BadToken before rest = NextIs k.Bad rest × EndsNone (line ranges) before rest
 Why BadNumber before rest = NextIs k.Number rest × EndsNone (line ranges) before rest × GoesOn (line order_alone) before rest
@@ -42,14 +42,14 @@ IsLineRefusal ts NoMemory = ⊥
 IsLineRefusal ts (Refused kind left) = IsFirstRefusal ts kind left
 
 pub record LineLaws : Type 0 where
-  -- what is read is spelled
+  -- a line is read as the statement that it spells, and as no other
   pub found : (ts : List Token) (s : Statement) → line_of ts ≡ Ok s → line ranges ts (Some s)
-  -- what is spelled is read
   pub only : (ts : List Token) (s : Statement) → line ranges ts (Some s) → line_of ts ≡ Ok s
-  -- a Range that is not admissible is refused as such
+  -- a line that spells none is a Range that is not admissible
   pub none : (ts : List Token) → line ranges ts None → line_of ts ≡ Err (Refused NotAdmissible 0)
-  -- a refusal is the first
+  -- a line is refused at its first refusal, of which there is but one
   pub refused : (ts : List Token) (e : ReadError TextKind) → line_of ts ≡ Err e → IsLineRefusal ts e
+  pub first : (ts : List Token) (kind : TextKind) (left : ℕ) → IsFirstRefusal ts kind left → line_of ts ≡ Err (Refused kind left)
   -- a refused line spells no statement
   pub never_both : (ts : List Token) (e : ReadError TextKind) (s : Statement) → line_of ts ≡ Err e → line ranges ts (Some s) → ⊥
   -- a line spells one thing
