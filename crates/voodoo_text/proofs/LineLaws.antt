@@ -12,7 +12,7 @@ use Rattle.voodoo_text.specs.declared.refusal.TextKind.TheVariants.{NotText, Bad
 use Rattle.voodoo_text.specs.Tokens.{Token}
 use Rattle.voodoo_text.specs.Statements as st
 use Rattle.voodoo_text.specs.Statements.{line_of, admissible}
-use Rattle.voodoo_text.specs.PlaceGrammar.{ranges, order_alone}
+use Rattle.voodoo_text.specs.PlaceGrammar.{Asked, ranges, order_alone}
 use Rattle.voodoo_text.specs.Grammar.{line}
 use Rattle.voodoo_text.specs.GrammarLaws.{Why, IsFirstRefusal, IsLineRefusal, LineLaws}
 use Rattle.voodoo_text.proofs.OneToken.{Says}
@@ -68,6 +68,13 @@ reads ts x l = read_complete free Unexpected (line ranges) every whole rule_whol
 
 read_as : (ts : List Token) (x : Option Statement) → line ranges ts x → line_of ts ≡ admissible x
 read_as ts x l = sym (line_is ts) ∙ ap answered (reads ts x l)
+
+reads_easy : (ts : List Token) (x : Option Statement) → line order_alone ts x → ended Unexpected (rule_whole.easy ts) ≡ Ok x
+reads_easy ts x l = read_complete free Unexpected (line order_alone) every rule_whole.easy rule_whole.reads_easy ts x (no_gaps ts) l
+
+one : (m : Asked) (ts : List Token) (s t : Option Statement) → line m ts s → line m ts t → s ≡ t
+one ranges ts s t l m = let a = reads ts s l in let b = reads ts t m in cc
+one order_alone ts s t l m = let a = reads_easy ts s l in let b = reads_easy ts t m in cc
 
 -- ---- the first refusal
 
@@ -137,5 +144,5 @@ line_laws = record {
   refused = refuses;
   first = first;
   never_both = λ ts e s h l. let r = read_as ts (Some s) l in absurd (cc);
-  one = λ ts s t l m. let a = reads ts s l in let b = reads ts t m in cc;
+  one = one;
 }

@@ -10,7 +10,7 @@ use Rattle.voodoo_text.specs.declared.refusal.TextKind.{TextKind}
 use Rattle.voodoo_text.specs.declared.refusal.TextKind.TheVariants.{NotText, BadToken, Unexpected, BadNumber, NotAdmissible}
 use Rattle.voodoo_text.specs.Tokens.{Token}
 use Rattle.voodoo_text.specs.Statements.{line_of}
-use Rattle.voodoo_text.specs.PlaceGrammar.{ranges, order_alone}
+use Rattle.voodoo_text.specs.PlaceGrammar.{Asked, ranges, order_alone}
 use Rattle.voodoo_text.specs.Grammar.{line}
 
 -- the next token is of this kind
@@ -52,5 +52,5 @@ pub record LineLaws : Type 0 where
   pub first : (ts : List Token) (kind : TextKind) (left : ℕ) → IsFirstRefusal ts kind left → line_of ts ≡ Err (Refused kind left)
   -- a refused line spells no statement
   pub never_both : (ts : List Token) (e : ReadError TextKind) (s : Statement) → line_of ts ≡ Err e → line ranges ts (Some s) → ⊥
-  -- a line spells one thing
-  pub one : (ts : List Token) (s t : Option Statement) → line ranges ts s → line ranges ts t → s ≡ t
+  -- a line spells one thing, also where ranges are not asked
+  pub one : (m : Asked) (ts : List Token) (s t : Option Statement) → line m ts s → line m ts t → s ≡ t
