@@ -1,0 +1,225 @@
+-- An expression costs no more than the tokens that stand for it.
+use Rattle.std.proofs.Common.{Bool, ℕ, zero, suc, ◌+◌, ◌≤◌, [], arith}
+use Rattle.phrases.specs.Phrases.{Phrase, token, Both, nothing, ◌<|>◌, Repeated}
+use Rattle.sql_read.specs.declared.kind.Kind.{Kind}
+use Rattle.sql_read.specs.declared.kind.Kind.TheVariants as k
+use Rattle.sql_read.specs.declared.token_list.Token.{Token}
+use Rattle.sql_read.specs.Lexis.{Bytes}
+use Rattle.sql_read.specs.Schema.{is, word}
+use Rattle.query_read.specs.declared.tree.BinaryOp.{BinaryOp}
+use Rattle.query_read.specs.declared.tree.BinaryOp.TheVariants as op
+use Rattle.query_read.specs.declared.tree.Polarity.{Polarity}
+use Rattle.query_read.specs.declared.tree.Polarity.TheVariants.{Plain, Negated}
+use Rattle.query_read.specs.declared.tree.Expr.{Expr}
+use Rattle.query_read.specs.declared.tree.Form.TheVariants as f
+use Rattle.query_read.specs.declared.enclosing.Enclosure.{Enclosure}
+use Rattle.query_read.specs.Asked.{Asked}
+use Rattle.query_read.specs.Days.{content}
+use Rattle.query_read.specs.Nodes.{signs, compares, aggregates, of, sign_of, sum_op, comparison, aggregate_of, node, enclosure}
+use Rattle.query_read.specs.Expressions as g
+use Rattle.query_read.specs.Expressions.{Depth}
+use Rattle.query_sizes.proofs.Costs.{cost, costs, cost-Number, cost-Text, cost-Date, cost-Column, cost-CountAll, cost-Aggregate, cost-Enclosed, cost-Signed, cost-Not, cost-Binary, cost-Divide, cost-Between, cost-In}
+use Rattle.query_sizes.proofs.Weights.{Weighs, idle, weighs_token, weighs_value, weighs_none, weighs_both, weighs_either, weighs_repeated, weighs_gap, weighs_series, behind}
+
+abbrev pub Costs : Phrase Token Expr → Type 0
+Costs L = Weighs 0 cost L
+
+-- ---- atoms
+
+costs_number : Costs g.number
+costs_number = weighs_both (weighs_token 0 (is k.Digits)) (λ t. weighs_value 1 cost (node t.at (f.Number t.value)) (omega (arith, cost-Number t.at t.value)))
+
+costs_literal : (text : Bytes) → Costs (g.literal text)
+costs_literal text = weighs_both (weighs_token 0 (is k.Quoted)) (λ t. weighs_value 1 cost (node t.at (f.Text (content text t))) (omega (arith, cost-Text t.at (content text t))))
+
+date_text : (m : Asked) (text : Bytes) → Weighs 1 (λ _. 2) (g.date_text m text)
+date_text m text =
+    weighs_either
+    (weighs_both (weighs_token 1 _) (λ t. weighs_value 2 (λ _. 2) _ (omega arith)))
+    (weighs_gap 1 (λ _. 2) _ (omega arith))
+
+costs_date : (m : Asked) (text : Bytes) → Costs (g.date m text)
+costs_date m text =
+    weighs_both (weighs_token 0 (is k.Date)) (λ t.
+    weighs_both (date_text m text) (λ first.
+    weighs_both (idle 2 (Repeated (g.step m text) first)) (λ day.
+    weighs_value 2 cost (node t.at (f.Date day)) (omega (arith, cost-Date t.at day)))))
+
+costs_reference : (text : Bytes) → Costs (g.reference text)
+costs_reference text =
+    weighs_both (column text) (λ c. weighs_value 1 cost (node c.at (f.Column c)) (omega (arith, cost-Column c.at c)))
+  where
+    column : (text : Bytes) → Weighs 0 (λ _. 1) (g.column text)
+    column text = weighs_both (weighs_token 0 (is k.Name)) (λ n. idle 1 _)
+
+-- what may open a level, with the tokens that it takes itself
+pub record Cheap (d : Depth) : Type 0 where
+  pub parens : Weighs 0 (λ x. 2 + cost x.value) d.parens
+  pub star : Weighs 0 (λ _. 3) d.star
+  pub list : Weighs 0 (λ xs. 2 + costs xs) d.list
+  pub nots : Costs d.nots
+  pub signed : Costs d.signed
+
+module _ (d : Depth) (cheap : Cheap d) where
+  costs_count : Costs (g.count d)
+  costs_count =
+      weighs_both (weighs_token 0 (is k.Count)) (λ t.
+      let most : cost (node t.at f.CountAll) ≤ 4 = omega (arith, cost-CountAll t.at) in
+      weighs_either
+      (weighs_both (behind 1 cheap.star) (λ _. weighs_value 4 cost (node t.at f.CountAll) most))
+      (weighs_gap 1 cost (node t.at f.CountAll) most))
+
+  argument : Weighs 1 (λ x. 1 + (2 + cost x.value)) (d.parens <|> g.gap g.nowhere)
+  argument = weighs_either (behind 1 cheap.parens) (weighs_gap 1 (λ x. 1 + (2 + cost x.value)) g.nowhere (omega (arith, cost-Number 0 0)))
+
+  costs_aggregate : Costs (g.aggregate d)
+  costs_aggregate =
+      weighs_both (weighs_token 0 (of aggregates)) (λ t.
+      weighs_both argument (λ x.
+      weighs_value (1 + (2 + cost x.value)) cost (node t.at (f.Aggregate (aggregate_of t.kind) x.value)) (omega (arith, cost-Aggregate t.at (aggregate_of t.kind) x.value))))
+
+  costs_enclosed : Costs (g.enclosed d)
+  costs_enclosed =
+      weighs_both cheap.parens (λ x.
+      weighs_value (2 + cost x.value) cost (node x.at (f.Enclosed x.value)) (omega (arith, cost-Enclosed x.at x.value)))
+
+-- ---- sums
+
+divisor : (n : ℕ) → Weighs n (λ _. n + 1) g.divisor
+divisor n =
+    weighs_either
+    (weighs_both (weighs_token n (of signs)) (λ s. weighs_both (idle (n + 1) (word k.Digits)) (λ v. weighs_value (n + 1) (λ _. n + 1) _ (omega arith))))
+    (weighs_both (weighs_token n (is k.Digits)) (λ v. weighs_value (n + 1) (λ _. n + 1) _ (omega arith)))
+
+weighs_over : (a : Expr) → Weighs (cost a) cost (g.over a)
+weighs_over a =
+    weighs_both (weighs_token (cost a) (is k.Slash)) (λ t.
+    weighs_both (divisor (cost a + 1)) (λ v.
+    weighs_value (cost a + 1 + 1) cost (node a.at (f.Divide t.at a v)) (omega (arith, cost-Divide a.at t.at a v))))
+
+-- an operator, and what stands to its right
+weighs_operator : (a : Expr) (test : Token → Bool) (o : Token → BinaryOp) (L : Phrase Token Expr) → Costs L → Weighs (cost a) cost (Both (token test) (λ t. Both L (λ b. nothing (node a.at (f.Binary (o t) t.at a b)))))
+weighs_operator a test o L p =
+    weighs_both (weighs_token (cost a) test) (λ t.
+    weighs_both (behind (cost a + 1) p) (λ b.
+    weighs_value (cost a + 1 + cost b) cost (node a.at (f.Binary (o t) t.at a b)) (omega (arith, cost-Binary a.at (o t) t.at a b))))
+
+weighs_joined : (kind : Kind) (o : BinaryOp) (L : Phrase Token Expr) → Costs L → (a : Expr) → Weighs (cost a) cost (g.joined kind o L a)
+weighs_joined kind o L p a = weighs_operator a (is kind) (λ _. o) L p
+
+module _ (m : Asked) (text : Bytes) (d : Depth) (cheap : Cheap d) where
+  costs_atom : Costs (g.atom m text d)
+  costs_atom =
+      weighs_either costs_number
+      (weighs_either (costs_literal text)
+      (weighs_either (costs_date m text)
+      (weighs_either (costs_reference text)
+      (weighs_either (costs_count d cheap)
+      (weighs_either (costs_aggregate d cheap) (costs_enclosed d cheap))))))
+
+  costs_factor : Costs (g.factor m text d)
+  costs_factor = weighs_either cheap.signed costs_atom
+
+  costs_term : Costs (g.term m text d)
+  costs_term =
+      weighs_both costs_factor
+      (weighs_repeated cost (λ a. g.times m text d a <|> g.over a)
+      (λ a. weighs_either (weighs_operator a (is k.Star) (λ _. op.Multiply) (g.factor m text d) costs_factor) (weighs_over a)))
+
+  costs_sum : Costs (g.sum m text d)
+  costs_sum =
+      weighs_both costs_term
+      (weighs_repeated cost (g.added m text d)
+      (λ a. weighs_operator a (of signs) (λ s. sum_op s.kind) (g.term m text d) costs_term))
+
+  -- ---- predicates
+
+  weighs_between : (p : Polarity) (a : Expr) → Weighs (cost a) cost (g.between m text d p a)
+  weighs_between p a =
+      weighs_both (weighs_token (cost a) (is k.Between)) (λ t.
+      weighs_both (behind (cost a + 1) costs_sum) (λ low.
+      weighs_both (weighs_token (cost a + 1 + cost low) (is k.And)) (λ _.
+      weighs_both (behind (cost a + 1 + cost low + 1) costs_sum) (λ high.
+      weighs_value (cost a + 1 + cost low + 1 + cost high) cost (node a.at (f.Between p t.at a low high)) (omega (arith, cost-Between a.at p t.at a low high))))))
+
+  weighs_contained : (p : Polarity) (a : Expr) → Weighs (cost a) cost (g.contained m text d p a)
+  weighs_contained p a =
+      weighs_both (weighs_token (cost a) (is k.In)) (λ t.
+      weighs_both (weighs_either (behind (cost a + 1) cheap.list) (weighs_gap (cost a + 1) (λ xs. cost a + 1 + (2 + costs xs)) [] (omega arith))) (λ xs.
+      weighs_value (cost a + 1 + (2 + costs xs)) cost (node a.at (f.In p t.at a xs)) (omega (arith, cost-In a.at p t.at a xs))))
+
+  weighs_ranged : (p : Polarity) (a : Expr) → Weighs (cost a) cost (g.ranged m text d p a)
+  weighs_ranged p a = weighs_either (weighs_between p a) (weighs_contained p a)
+
+  weighs_test : (a : Expr) → Weighs (cost a) cost (g.test m text d a)
+  weighs_test a =
+      weighs_either (weighs_operator a (of compares) (λ t. comparison t.kind) (g.sum m text d) costs_sum)
+      (weighs_either (weighs_both (idle (cost a) (word k.Not)) (λ _. weighs_ranged Negated a))
+      (weighs_either (weighs_ranged Plain a) (weighs_value (cost a) cost a (omega arith))))
+
+  costs_pred : Costs (g.pred m text d)
+  costs_pred = weighs_both costs_sum weighs_test
+
+  costs_neg : Costs (g.neg m text d)
+  costs_neg = weighs_either cheap.nots costs_pred
+
+  costs_conj : Costs (g.conj m text d)
+  costs_conj = weighs_both costs_neg (weighs_repeated cost (g.joined k.And op.And (g.neg m text d)) (weighs_joined k.And op.And (g.neg m text d) costs_neg))
+
+  pub costs_expr : Costs (g.expr m text d)
+  costs_expr = weighs_both costs_conj (weighs_repeated cost (g.joined k.Or op.Or (g.conj m text d)) (weighs_joined k.Or op.Or (g.conj m text d) costs_conj))
+
+  -- ---- the same one level deeper
+
+  weighs_parens : Weighs 0 (λ x. 2 + cost x.value) (g.parens m text d)
+  weighs_parens =
+      weighs_both (weighs_token 0 (is k.OpenParen)) (λ t.
+      weighs_both (behind 1 costs_expr) (λ a.
+      weighs_both (weighs_token (1 + cost a) (is k.CloseParen)) (λ _.
+      weighs_value (1 + cost a + 1) (λ (x : Enclosure). 2 + cost x.value) (enclosure t a) (omega arith))))
+
+  weighs_listed : Weighs 0 (λ xs. 2 + costs xs) (g.listed m text d)
+  weighs_listed =
+      weighs_both (weighs_token 0 (is k.OpenParen)) (λ _.
+      weighs_both (behind 1 (weighs_series cost (g.sum m text d) costs_sum)) (λ xs.
+      weighs_both (weighs_token (1 + costs xs) (is k.CloseParen)) (λ _.
+      weighs_value (1 + costs xs + 1) (λ xs. 2 + costs xs) xs (omega arith))))
+
+  costs_nots : Costs (g.nots m text d)
+  costs_nots =
+      weighs_both (weighs_token 0 (is k.Not)) (λ t.
+      weighs_both (behind 1 costs_neg) (λ a.
+      weighs_value (1 + cost a) cost (node t.at (f.Not a)) (omega (arith, cost-Not t.at a))))
+
+  costs_signed : Costs (g.signed m text d)
+  costs_signed =
+      weighs_both (weighs_token 0 (of signs)) (λ s.
+      weighs_both (behind 1 costs_atom) (λ a.
+      weighs_value (1 + cost a) cost (node s.at (f.Signed (sign_of s.kind) a)) (omega (arith, cost-Signed s.at (sign_of s.kind) a))))
+
+weighs_star : Weighs 0 (λ _. 3) g.star
+weighs_star =
+    weighs_both (weighs_token 0 (is k.OpenParen)) (λ _.
+    weighs_both (weighs_token 1 (is k.Star)) (λ s.
+    weighs_both (weighs_token 2 (is k.CloseParen)) (λ _.
+    weighs_value 3 (λ _. 3) s (omega arith))))
+
+pub cheap_depth : (m : Asked) (text : Bytes) (n : ℕ) → Cheap (g.depth m text n)
+unfolding g.depth
+cheap_depth m text zero = record {
+  parens = weighs_none 0 _;
+  star = weighs_none 0 _;
+  list = weighs_none 0 _;
+  nots = weighs_none 0 cost;
+  signed = weighs_none 0 cost;
+}
+cheap_depth m text (suc n) =
+    let d = g.depth m text n in
+    let cheap = cheap_depth m text n in
+    record {
+      parens = weighs_parens m text d cheap;
+      star = weighs_star;
+      list = weighs_listed m text d cheap;
+      nots = costs_nots m text d cheap;
+      signed = costs_signed m text d cheap;
+    }

@@ -1,0 +1,4 @@
+//! How large typed queries are.
+#![tactic(auto)]
+
+pub mod laws;
