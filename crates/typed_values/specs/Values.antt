@@ -94,8 +94,8 @@ compared o a b = compared_by o (below a b) (below b a)
 
 abbrev pub both : Value → Value → Value
 both (truth false) b = truth false
-both (truth true) b = b
 both a (truth false) = truth false
+both (truth true) (truth b) = truth b
 both a b = null
 
 abbrev pub opposite : Value → Value
