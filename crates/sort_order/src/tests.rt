@@ -124,6 +124,14 @@ fn orders_of_four_places(rt: HostRuntime) -> Result<(), Fail> {
             ALL,
             [Some(2), Some(0), None, None],
         ),
+        // Rows 1, 2, 1 from the greatest down: the two that are equal stay as they stood.
+        (
+            [Some(1), Some(1), Some(1), None],
+            [Some(1), Some(2), Some(1), Some(3)],
+            true,
+            ALL,
+            [Some(1), Some(0), Some(2), None],
+        ),
         (
             [None, None, None, None],
             ALL,

@@ -459,7 +459,7 @@ fn a_program_is_refused_at_a_line(rt: HostRuntime) -> Result<(), Fail> {
 }
 
 /// Programs over one column: its values a line each, the program, and what is written.
-const PROGRAMS: [(&str, &str, &str); 5] = [
+const PROGRAMS: [(&str, &str, &str); 4] = [
     (
         "a\n1\n0\n1\n1\n0\n1\n",
         "t = Load(t)\nr = Range(t, .run, 0, 1, 0, 3)\nz = Zip(t, r)\ns = FoldSelect(z, .a, .run, .pos)\nPersist(out, s)\n",
@@ -481,11 +481,6 @@ const PROGRAMS: [(&str, &str, &str); 5] = [
         "t = Load(t)\np = Range(3, .p, 1, 1, 0, 1)\ns = Partition(t, .a, p, .p, .to)\nPersist(out, s)\n",
         "out,4\nslot,.to\n0,3\n1,0\n2,2\n3,1\n",
     ),
-    (
-        "a\n7\n0\n",
-        "t = Load(t)\nq = Divide(7, t.a, .q)\nPersist(out, q)\n",
-        "out,2\nslot,.q\n0,1\n1,\n",
-    ),
 ];
 
 #[test]
@@ -495,6 +490,44 @@ fn operators_are_run(rt: HostRuntime) -> Result<(), Fail> {
         let files = shelf_files(alloc, SCHEMA, table, program)?;
         assert!(rt; gives(alloc, ALGEBRA, files, 0, text, "")?, "{program}");
     }
+    Ok(())
+}
+
+#[test]
+fn columns_are_divided(rt: HostRuntime) -> Result<(), Fail> {
+    let alloc = rt.alloc();
+    let schema = "CREATE TABLE t (a INTEGER NOT NULL, b INTEGER NOT NULL);\n";
+    for (program, code, text, line) in [
+        (
+            "t = Load(t)\nq = Divide(t.a, t.b, .q)\nPersist(out, q)\n",
+            0,
+            "out,2\nslot,.q\n0,3\n1,\n",
+            "",
+        ),
+        (
+            "t = Load(t)\nq = Divide(t.a, x.b, .q)\nPersist(out, q)\n",
+            9,
+            "",
+            "voodoo: algebra: line 2: UnknownName\n",
+        ),
+    ] {
+        let files = shelf_files(alloc, schema, "a,b\n7,2\n7,0\n", program)?;
+        assert!(rt;
+            gives(alloc, ALGEBRA, files, code, text, line)?,
+            "{program}"
+        );
+    }
+    Ok(())
+}
+
+#[test]
+fn a_program_is_text(rt: HostRuntime) -> Result<(), Fail> {
+    let alloc = rt.alloc();
+    let mut files = shelf_files(alloc, SCHEMA, "a\n1\n", "")?;
+    let bytes = b"t = Load(t)\nPersist(a, t) # \xff\n";
+    files.push((Name::of(alloc, "q.sql")?, Vec::from_slice(alloc, bytes)?))?;
+    let line = "voodoo: algebra: line 1: NotText\n";
+    assert!(rt; gives(alloc, ALGEBRA, files, 9, "", line)?);
     Ok(())
 }
 
