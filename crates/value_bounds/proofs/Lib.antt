@@ -1,0 +1,3 @@
+mod Ends
+mod Forms
+pub mod Values

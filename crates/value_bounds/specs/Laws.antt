@@ -1,0 +1,42 @@
+-- What the interval of an expression says of its value, on rows whose values have the kinds of their columns: it has one, and a number lies within the interval.
+use Rattle.std.specs.Prelude.{◌≡◌, ◌≢◌, int_le, Bool, true, ◌&&◌, Some, Err, IsOkAnd}
+use Rattle.std.specs.List.{list_all}
+use Rattle.control_vectors.specs.Slots.{over}
+use Rattle.query_types.specs.declared.typed.ColumnRef.{ColumnRef}
+use Rattle.query_types.specs.declared.typed.TypedExpr.{TypedExpr}
+use Rattle.query_types.specs.declared.typed.TypedExpr.TheOpen.{TypedExpr-F}
+use Rattle.query_types.specs.declared.typed.TypedExpr.TheFolds.{fold-TypedExpr}
+use Rattle.typed_values.specs.declared.intervals.Interval.{Interval}
+use Rattle.typed_values.specs.Intervals.{of_kind}
+use Rattle.typed_values.specs.Bounds.{bounds, cannot_overflow}
+use Rattle.typed_values.specs.Values.{Value, number, value_on_row}
+
+-- a number between the ends; a text, a truth and null are no numbers, and an interval says nothing of them
+abbrev pub holds : Interval → Value → Bool
+holds i (number z) = int_le i.least z && int_le z i.greatest
+holds i v = true
+
+abbrev pub form_fits : (ColumnRef → Value) → TypedExpr-F Bool → Bool
+form_fits columns (TypedExpr-F.Number n) = true
+form_fits columns (TypedExpr-F.Text t) = true
+form_fits columns (TypedExpr-F.Date day) = true
+form_fits columns (TypedExpr-F.Column c kind) = holds (of_kind kind) (columns c)
+form_fits columns (TypedExpr-F.Aggregate n) = true
+form_fits columns (TypedExpr-F.Signed s x) = x
+form_fits columns (TypedExpr-F.Not x) = x
+form_fits columns (TypedExpr-F.Binary o x y) = x && y
+form_fits columns (TypedExpr-F.Divide x s n) = x
+form_fits columns (TypedExpr-F.Between p x y z) = x && (y && z)
+form_fits columns (TypedExpr-F.In p x ys) = x && list_all (λ y. y) ys
+
+-- the row's values have the kinds of the expression's columns
+unfoldable pub fits : (ColumnRef → Value) → TypedExpr → Bool
+fits columns = fold-TypedExpr Bool (form_fits columns)
+
+-- an expression that has an interval has a value, which the interval holds
+abbrev pub ValueLaw : Type 0
+ValueLaw = (columns : ColumnRef → Value) (e : TypedExpr) (i : Interval) → bounds e ≡ Some i → fits columns e ≡ true → IsOkAnd (value_on_row columns e) (λ v. holds i v ≡ true)
+
+-- an expression that cannot overflow is Over on no row
+abbrev pub NeverOver : Type 0
+NeverOver = (columns : ColumnRef → Value) (e : TypedExpr) → cannot_overflow e ≡ true → fits columns e ≡ true → value_on_row columns e ≢ Err over
