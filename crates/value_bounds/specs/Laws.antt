@@ -1,4 +1,4 @@
--- What the interval of an expression says of its value, on rows whose values have the kinds of their columns: it has one, and a number lies within the interval.
+-- What the interval of an expression says of its value, on rows whose numbers lie in the intervals of their columns' kinds: it has one, and a number lies within.
 use Rattle.std.specs.Prelude.{◌≡◌, ◌≢◌, int_le, Bool, true, ◌&&◌, Some, Err, IsOkAnd}
 use Rattle.std.specs.List.{list_all}
 use Rattle.control_vectors.specs.Slots.{over}
@@ -29,14 +29,14 @@ form_fits columns (TypedExpr-F.Divide x s n) = x
 form_fits columns (TypedExpr-F.Between p x y z) = x && (y && z)
 form_fits columns (TypedExpr-F.In p x ys) = x && list_all (λ y. y) ys
 
--- the row's values have the kinds of the expression's columns
+-- the row's numbers lie in the intervals of their columns' kinds, at each column of the expression
 unfoldable pub fits : (ColumnRef → Value) → TypedExpr → Bool
 fits columns = fold-TypedExpr Bool (form_fits columns)
 
--- an expression that has an interval has a value, which the interval holds
+-- an expression that has an interval has a value on each row that fits it, which the interval holds
 abbrev pub ValueLaw : Type 0
 ValueLaw = (columns : ColumnRef → Value) (e : TypedExpr) (i : Interval) → bounds e ≡ Some i → fits columns e ≡ true → IsOkAnd (value_on_row columns e) (λ v. holds i v ≡ true)
 
--- an expression that cannot overflow is Over on no row
+-- an expression that cannot overflow is Over on no row that fits it
 abbrev pub NeverOver : Type 0
 NeverOver = (columns : ColumnRef → Value) (e : TypedExpr) → cannot_overflow e ≡ true → fits columns e ≡ true → value_on_row columns e ≢ Err over

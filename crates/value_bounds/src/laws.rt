@@ -2,12 +2,12 @@
 
 ghost use Rattle.value_bounds.specs.Laws.{NeverOver, ValueLaw};
 
-/// An expression that has an interval has a value on every row, and a number lies within the interval.
+/// An expression that has an interval has a value on each row that fits its columns, and a number lies within the interval.
 pub fn value_law()
     ensures { ValueLaw }
 {}
 
-/// An expression that cannot overflow is Over on no row.
+/// An expression that cannot overflow is Over on no row that fits its columns.
 pub fn never_over()
     ensures { NeverOver }
 {}
