@@ -439,6 +439,37 @@ fn a_program_is_refused_at_a_line(rt: HostRuntime) -> Result<(), Fail> {
             9,
             "voodoo: algebra: line 2: UnknownName\n",
         ),
+        (
+            "t = Load(t)\nq = Divide(t.b, 2, .q)\n",
+            9,
+            "voodoo: algebra: line 2: NoSuchPath\n",
+        ),
+        (
+            "v = Add(1, 2, .v)\n",
+            9,
+            "voodoo: algebra: line 1: NoLength\n",
+        ),
+        (
+            "t = Load(t) # of three rows\nz = Zip(t, t)\n",
+            9,
+            "voodoo: algebra: line 2: PathClash\n",
+        ),
+        // The ninth segment is the one below `.a`.
+        (
+            "r = Range(3, .a.b, 0, 1, 0, 1)\np = Project(r, .a, .c.d.e.f.g.h.i.j)\n",
+            9,
+            "voodoo: algebra: line 2: TooDeep\n",
+        ),
+        (
+            "t = Load(t)\no = Order(t, .a, .o, +.a, +.a, +.a, +.a, +.a, +.a, +.a, +.a, +.a, +.a, +.a, +.a, +.a, +.a, +.a, +.a, +.a)\n",
+            9,
+            "voodoo: algebra: line 2: TooManyKeys\n",
+        ),
+        (
+            "t = Load(t)\n\nt = Load(t)\n",
+            9,
+            "voodoo: algebra: line 3: NameTwice\n",
+        ),
         ("t = Load(t)\n", 9, "voodoo: algebra: line 0: NoPersist\n"),
         // The check comes before the limit of slots, and the first vector that is too long decides.
         (
