@@ -5,8 +5,9 @@
 
 Each program loads a table of two columns, makes one vector by the operator, and shows one slot of it, so that
 the time beyond that of loading is the operator's. Where numpy is installed, the same step by numpy over the same values
-stands beside it: numbers of 64 bits without empty slots and without a test for overflow there. A time is the median of
-the rounds, and a peak is the greatest resident memory of any round.
+stands beside it: numbers of 64 bits without empty slots and without a test for overflow there. A time is the median, over
+the rounds, of the processor's time, which other work on the machine changes least. A peak is the greatest resident memory
+of any round.
 """
 
 import argparse
@@ -104,16 +105,14 @@ def columns():
 
 
 def once(words):
-    """The seconds and the peak in MB of one run."""
-    began = time.perf_counter()
+    """The processor's seconds and the peak in MB of one run."""
     child = subprocess.Popen(words, stdout=subprocess.PIPE, stderr=subprocess.PIPE)
-    out = child.stdout.read()
+    child.stdout.read()
     err = child.stderr.read()
     _, status, usage = os.wait4(child.pid, 0)
-    took = time.perf_counter() - began
     if status != 0:
         sys.exit(f"voodoo ended with {status}: {err.decode()}")
-    return took, usage.ru_maxrss / 1024, out
+    return usage.ru_utime + usage.ru_stime, usage.ru_maxrss / 1024
 
 
 def measured(folder, text, rounds):
@@ -121,7 +120,7 @@ def measured(folder, text, rounds):
         f.write(text)
     words = [PROGRAM, "--db", folder + "/s.sql", "--mode", "algebra", "--text", folder + "/p.txt"]
     runs = [once(words) for _ in range(rounds)]
-    return statistics.median(r[0] for r in runs), max(r[1] for r in runs), runs[0][2]
+    return statistics.median(r[0] for r in runs), max(r[1] for r in runs)
 
 
 def by_numpy(k, a, step, rounds):
@@ -139,9 +138,9 @@ def by_numpy(k, a, step, rounds):
     names = {"np": np, "a": a, "k": k, "t_a": a, "scatter": scatter, "starts": np.arange(0, ROWS, 1024), "pivots": np.arange(64) * 16384}
     times = []
     for _ in range(rounds):
-        began = time.perf_counter()
+        began = time.process_time()
         eval(step, names)
-        times.append(time.perf_counter() - began)
+        times.append(time.process_time() - began)
     return statistics.median(times)
 
 
@@ -158,16 +157,17 @@ def main():
         with open(folder + "/t.csv", "w") as f:
             f.write("k,a\n")
             f.writelines(f"{x},{y}\n" for x, y in zip(k, a))
-        base, peak, _ = measured(folder, START + "v = Materialize(t)\n" + END, rounds)
-        print(f"| operator | ms over 2^20 slots | numpy | peak MB |\n|---|---|---|---|")
-        print(f"| loading alone | {base * 1000:.0f} | | {peak:.0f} |")
-        for name, line, step in OPERATORS:
-            took, peak, _ = measured(folder, START + line + "\n" + END, rounds)
-            beside = by_numpy(k, a, step, rounds) if step else None
-            other = "" if beside is None else f"{beside * 1000:.1f}"
-            print(f"| {name} | {max(took - base, 0) * 1000:.0f} | {other} | {peak:.0f} |")
-        took, peak, _ = measured(folder, CHAIN, 1)
-        print(f"| a program of 25 operators | {took * 1000:.0f} with loading | | {peak:.0f} |")
+        base, base_peak = measured(folder, START + "v = Materialize(t)\n" + END, rounds)
+        found = [measured(folder, START + line + "\n" + END, rounds) for _, line, _ in OPERATORS]
+        whole, whole_peak = measured(folder, CHAIN, rounds)
+    print("| operator | ms over 2^20 slots | numpy | peak MB |\n|---|---|---|---|")
+    print(f"| loading alone | {base * 1000:.0f} | | {base_peak:.0f} |")
+    # Only now, since a child's peak counts what its parent holds.
+    for (name, _, step), (took, peak) in zip(OPERATORS, found):
+        beside = by_numpy(k, a, step, rounds) if step else None
+        other = "" if beside is None else f"{beside * 1000:.1f}"
+        print(f"| {name} | {max(took - base, 0) * 1000:.0f} | {other} | {peak:.0f} |")
+    print(f"| a program of 25 operators | {whole * 1000:.0f} with loading | | {whole_peak:.0f} |")
 
 
 if __name__ == "__main__":
