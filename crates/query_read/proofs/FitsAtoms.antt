@@ -19,14 +19,15 @@ use Rattle.sql_read.specs.Schema.{is, word}
 use Rattle.sql_read.proofs.GoodSchema.{of_kind}
 use Rattle.query_read.specs.declared.fault.Fault.{Fault}
 use Rattle.query_read.specs.declared.fault.Fault.TheVariants.{Unexpected, NoDate, NoSpan, OutOfRange}
-use Rattle.query_read.specs.declared.tree.BinaryOp.{BinaryOp}
-use Rattle.query_read.specs.declared.tree.ColumnName.{ColumnName}
-use Rattle.query_read.specs.declared.tree.Divisor.{Divisor}
-use Rattle.query_read.specs.declared.tree.Expr.{Expr}
-use Rattle.query_read.specs.declared.tree.Form.TheVariants as f
+use Rattle.query_trees.specs.declared.expr.BinaryOp.{BinaryOp}
+use Rattle.query_trees.specs.declared.expr.ColumnName.{ColumnName}
+use Rattle.query_trees.specs.declared.expr.Divisor.{Divisor}
+use Rattle.query_trees.specs.declared.expr.Expr.{Expr}
+use Rattle.query_trees.specs.declared.expr.Form.TheVariants as f
 use Rattle.query_read.specs.Asked.{Asked}
 use Rattle.query_read.specs.Days.{day_at, span_at, moved, no_date, no_span, leaves}
-use Rattle.query_read.specs.Nodes.{signs, steps, of, sign_of, node, binary, divisor_of, divided, bare, qualified}
+use Rattle.query_trees.specs.Nodes.{node}
+use Rattle.query_read.specs.Nodes.{signs, steps, of, sign_of, binary, divisor_of, divided, bare, qualified}
 use Rattle.query_read.specs.Expressions as g
 use Rattle.query_read.specs.ExpressionParsers as r
 use Rattle.query_read.specs.ExpressionParsers.{Parser, expect, expect_of}

@@ -15,19 +15,19 @@ use Rattle.sql_read.specs.Kinds.{same_kind}
 use Rattle.sql_read.specs.Lexis.{Bytes}
 use Rattle.sql_read.specs.Schema.{is, word}
 use Rattle.sql_read.proofs.GoodSchema.{of_kind}
-use Rattle.query_read.specs.declared.tree.ColumnName.{ColumnName}
-use Rattle.query_read.specs.declared.tree.Expr.{Expr}
-use Rattle.query_read.specs.declared.tree.Alias.{Alias}
-use Rattle.query_read.specs.declared.tree.SelectItem.{SelectItem}
-use Rattle.query_read.specs.declared.tree.SelectList.{SelectList}
-use Rattle.query_read.specs.declared.tree.SelectList.TheVariants as select
-use Rattle.query_read.specs.declared.tree.TableName.{TableName}
-use Rattle.query_read.specs.declared.tree.Join.{Join}
-use Rattle.query_read.specs.declared.tree.Source.{Source}
-use Rattle.query_read.specs.declared.tree.Direction.{Direction}
-use Rattle.query_read.specs.declared.tree.Direction.TheVariants.{Ascending, Descending}
-use Rattle.query_read.specs.declared.tree.SortKey.{SortKey}
-use Rattle.query_read.specs.declared.tree.Query.{Query}
+use Rattle.query_trees.specs.declared.expr.ColumnName.{ColumnName}
+use Rattle.query_trees.specs.declared.expr.Expr.{Expr}
+use Rattle.query_trees.specs.declared.clauses.Alias.{Alias}
+use Rattle.query_trees.specs.declared.clauses.SelectItem.{SelectItem}
+use Rattle.query_trees.specs.declared.clauses.SelectList.{SelectList}
+use Rattle.query_trees.specs.declared.clauses.SelectList.TheVariants as select
+use Rattle.query_trees.specs.declared.clauses.TableName.{TableName}
+use Rattle.query_trees.specs.declared.clauses.Join.{Join}
+use Rattle.query_trees.specs.declared.clauses.Source.{Source}
+use Rattle.query_trees.specs.declared.clauses.Direction.{Direction}
+use Rattle.query_trees.specs.declared.clauses.Direction.TheVariants.{Ascending, Descending}
+use Rattle.query_trees.specs.declared.clauses.SortKey.{SortKey}
+use Rattle.query_trees.specs.declared.query.Query.{Query}
 use Rattle.query_read.specs.declared.grouping.Grouping.{Grouping}
 use Rattle.query_read.specs.Asked.{Asked}
 use Rattle.query_read.specs.Classes.{joins}

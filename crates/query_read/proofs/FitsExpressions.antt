@@ -16,16 +16,17 @@ use Rattle.sql_read.specs.Lexis.{Bytes}
 use Rattle.sql_read.specs.Schema.{is, word}
 use Rattle.sql_read.proofs.GoodSchema.{of_kind}
 use Rattle.query_read.specs.declared.fault.Fault.TheVariants.{Unexpected, TooDeep}
-use Rattle.query_read.specs.declared.tree.BinaryOp.TheVariants as op
-use Rattle.query_read.specs.declared.tree.Polarity.{Polarity}
-use Rattle.query_read.specs.declared.tree.Polarity.TheVariants.{Plain, Negated}
-use Rattle.query_read.specs.declared.tree.Expr.{Expr}
-use Rattle.query_read.specs.declared.tree.Form.TheVariants as f
+use Rattle.query_trees.specs.declared.expr.BinaryOp.TheVariants as op
+use Rattle.query_trees.specs.declared.expr.Polarity.{Polarity}
+use Rattle.query_trees.specs.declared.expr.Polarity.TheVariants.{Plain, Negated}
+use Rattle.query_trees.specs.declared.expr.Expr.{Expr}
+use Rattle.query_trees.specs.declared.expr.Form.TheVariants as f
 use Rattle.query_read.specs.declared.enclosing.Enclosure.{Enclosure}
 use Rattle.query_read.specs.Asked.{Asked}
 use Rattle.query_read.specs.Days.{content}
 use Rattle.query_read.specs.Classes.{multiplies, ranges}
-use Rattle.query_read.specs.Nodes.{signs, steps, compares, aggregates, of, sign_of, sum_op, comparison, aggregate_of, node, binary, divided, enclosure}
+use Rattle.query_trees.specs.Nodes.{node}
+use Rattle.query_read.specs.Nodes.{signs, steps, compares, aggregates, of, sign_of, sum_op, comparison, aggregate_of, binary, divided, enclosure}
 use Rattle.query_read.specs.Expressions as g
 use Rattle.query_read.specs.Expressions.{Depth}
 use Rattle.query_read.specs.ExpressionParsers as r

@@ -11,11 +11,11 @@ use Rattle.sql_read.specs.Lexis.{Bytes}
 use Rattle.sql_read.specs.Schema.{is}
 use Rattle.query_read.specs.declared.fault.Fault.{Fault}
 use Rattle.query_read.specs.declared.fault.Fault.TheVariants.{Unexpected}
-use Rattle.query_read.specs.declared.tree.BinaryOp.{BinaryOp}
-use Rattle.query_read.specs.declared.tree.BinaryOp.TheVariants as op
-use Rattle.query_read.specs.declared.tree.Polarity.{Polarity}
-use Rattle.query_read.specs.declared.tree.Polarity.TheVariants.{Plain, Negated}
-use Rattle.query_read.specs.declared.tree.Expr.{Expr}
+use Rattle.query_trees.specs.declared.expr.BinaryOp.{BinaryOp}
+use Rattle.query_trees.specs.declared.expr.BinaryOp.TheVariants as op
+use Rattle.query_trees.specs.declared.expr.Polarity.{Polarity}
+use Rattle.query_trees.specs.declared.expr.Polarity.TheVariants.{Plain, Negated}
+use Rattle.query_trees.specs.declared.expr.Expr.{Expr}
 use Rattle.query_read.specs.Asked.{Asked}
 use Rattle.query_read.specs.Days.{moved}
 use Rattle.query_read.specs.Classes.{multiplies, ranges}

@@ -11,8 +11,8 @@ use Rattle.sql_read.specs.Lexis.{Bytes}
 use Rattle.sql_read.specs.Schema.{is}
 use Rattle.query_read.specs.declared.fault.Fault.{Fault}
 use Rattle.query_read.specs.declared.fault.Fault.TheVariants.{Unexpected, TooDeep, NoDate, NoSpan, OutOfRange}
-use Rattle.query_read.specs.declared.tree.Expr.{Expr}
-use Rattle.query_read.specs.declared.tree.Join.{Join}
+use Rattle.query_trees.specs.declared.expr.Expr.{Expr}
+use Rattle.query_trees.specs.declared.clauses.Join.{Join}
 use Rattle.query_read.specs.Asked.{Asked}
 use Rattle.query_read.specs.Days.{no_date, no_span, leaves, day_at, span_at}
 use Rattle.query_read.specs.Classes.{joins}

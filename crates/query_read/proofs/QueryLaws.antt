@@ -28,7 +28,7 @@ use Rattle.sql_read.specs.SchemaText.{own_kind, kind_at, place_of}
 use Rattle.sql_read.proofs.SchemaLaws.{schema_of-refuses, schema_of-not_text}
 use Rattle.query_read.specs.declared.fault.Fault.{Fault}
 use Rattle.query_read.specs.declared.fault.Fault.TheVariants.{Unexpected, TooDeep, NoDate, NoSpan, OutOfRange}
-use Rattle.query_read.specs.declared.tree.Query.{Query}
+use Rattle.query_trees.specs.declared.query.Query.{Query}
 use Rattle.query_read.specs.Asked.{Asked, all, order_alone}
 use Rattle.query_read.specs.Marked.{marked_after, as_step, step_kind, ends_date}
 use Rattle.query_read.specs.Clauses.{query}

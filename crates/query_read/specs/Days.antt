@@ -2,14 +2,15 @@
 -- After SQL-92 (ISO/IEC 9075:1992), 5.3 <date literal> and <interval literal>, with days alone, and the calendar of ISO 8601.
 use Rattle.std.specs.Prelude.{ℕ, ◌+◌, ◌-◌, ◌*◌, ◌==◌, ◌&&◌, Bool, true, false, not, if◌then◌else◌, nat_le, nat_lt, [], ◌∷◌, length, take, drop, slice_index, ℤ, pos, negsuc, ◌+ℤ◌, ◌-ℤ◌, neg_ℤ, Option, Some, None, is_none, unwrap_or}
 use Rattle.std.specs.Char.{is_ascii_digit}
+use Rattle.std.specs.Str.Lossy.{utf8_lossy}
 use Rattle.std.specs.List.{list_all}
 use Rattle.std.specs.Option.{option_map}
 use Rattle.jiff_core.specs.Calendar.{days_from_civil, days_in_month}
 use Rattle.sql_read.specs.declared.token_list.Token.{Token}
 use Rattle.sql_read.specs.Lexis.{Bytes, decimal}
 use Rattle.sql_read.specs.Schema.{extent}
-use Rattle.query_read.specs.declared.tree.Sign.{Sign}
-use Rattle.query_read.specs.declared.tree.Sign.TheVariants as sign
+use Rattle.query_trees.specs.declared.expr.Sign.{Sign}
+use Rattle.query_trees.specs.declared.expr.Sign.TheVariants as sign
 use Rattle.query_read.specs.Asked.{Asked}
 
 -- what stands between the quotes of a literal
@@ -22,9 +23,9 @@ single_quoted is_second [] = []
 single_quoted true (b ∷ z) = single_quoted false z
 single_quoted false (b ∷ z) = b ∷ single_quoted (b == 39) z
 
--- the value of a text literal
+-- The value of a text literal. In a text of UTF-8 what stands between quotes is UTF-8, and so stays as it is.
 abbrev pub content : Bytes → Token → Bytes
-content text t = single_quoted false (inner text t)
+content text t = utf8_lossy (single_quoted false (inner text t))
 
 abbrev pub digit_at : Bytes → ℕ → ℕ
 digit_at z i = slice_index z i - 48

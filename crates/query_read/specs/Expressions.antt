@@ -7,18 +7,19 @@ use Rattle.sql_read.specs.declared.kind.Kind.TheVariants as k
 use Rattle.sql_read.specs.declared.token_list.Token.{Token}
 use Rattle.sql_read.specs.Lexis.{Bytes}
 use Rattle.sql_read.specs.Schema.{is, word}
-use Rattle.query_read.specs.declared.tree.BinaryOp.{BinaryOp}
-use Rattle.query_read.specs.declared.tree.BinaryOp.TheVariants as op
-use Rattle.query_read.specs.declared.tree.Polarity.{Polarity}
-use Rattle.query_read.specs.declared.tree.Polarity.TheVariants.{Plain, Negated}
-use Rattle.query_read.specs.declared.tree.ColumnName.{ColumnName}
-use Rattle.query_read.specs.declared.tree.Divisor.{Divisor}
-use Rattle.query_read.specs.declared.tree.Expr.{Expr}
-use Rattle.query_read.specs.declared.tree.Form.TheVariants as f
+use Rattle.query_trees.specs.declared.expr.BinaryOp.{BinaryOp}
+use Rattle.query_trees.specs.declared.expr.BinaryOp.TheVariants as op
+use Rattle.query_trees.specs.declared.expr.Polarity.{Polarity}
+use Rattle.query_trees.specs.declared.expr.Polarity.TheVariants.{Plain, Negated}
+use Rattle.query_trees.specs.declared.expr.ColumnName.{ColumnName}
+use Rattle.query_trees.specs.declared.expr.Divisor.{Divisor}
+use Rattle.query_trees.specs.declared.expr.Expr.{Expr}
+use Rattle.query_trees.specs.declared.expr.Form.TheVariants as f
 use Rattle.query_read.specs.declared.enclosing.Enclosure.{Enclosure}
 use Rattle.query_read.specs.Asked.{Asked}
 use Rattle.query_read.specs.Days.{content, day_at, span_at, moved, no_date, no_span, leaves}
-use Rattle.query_read.specs.Nodes.{signs, steps, compares, aggregates, of, sign_of, sum_op, comparison, aggregate_of, node, binary, divisor_of, divided, enclosure, bare, qualified}
+use Rattle.query_trees.specs.Nodes.{node}
+use Rattle.query_read.specs.Nodes.{signs, steps, compares, aggregates, of, sign_of, sum_op, comparison, aggregate_of, binary, divisor_of, divided, enclosure, bare, qualified}
 
 -- one token that passes the test, and is not bad
 abbrev pub sound : (Token → Bool) → (Token → Bool) → Phrase Token Token

@@ -5,27 +5,28 @@ use Rattle.sql_read.specs.declared.kind.Kind.TheVariants as k
 use Rattle.sql_read.specs.declared.token_list.Token.{Token}
 use Rattle.sql_read.specs.Lexis.{Bytes}
 use Rattle.sql_read.specs.Schema.{name_at}
-use Rattle.query_read.specs.declared.tree.BinaryOp.{BinaryOp}
-use Rattle.query_read.specs.declared.tree.BinaryOp.TheVariants as op
-use Rattle.query_read.specs.declared.tree.Sign.{Sign}
-use Rattle.query_read.specs.declared.tree.Sign.TheVariants as sign
-use Rattle.query_read.specs.declared.tree.AggregateKind.{AggregateKind}
-use Rattle.query_read.specs.declared.tree.AggregateKind.TheVariants as aggregate
-use Rattle.query_read.specs.declared.tree.ColumnName.{ColumnName}
-use Rattle.query_read.specs.declared.tree.Divisor.{Divisor}
-use Rattle.query_read.specs.declared.tree.Expr.{Expr}
-use Rattle.query_read.specs.declared.tree.Form.{Form}
-use Rattle.query_read.specs.declared.tree.Form.TheVariants as f
-use Rattle.query_read.specs.declared.tree.Alias.{Alias}
-use Rattle.query_read.specs.declared.tree.SelectList.{SelectList}
-use Rattle.query_read.specs.declared.tree.TableName.{TableName}
-use Rattle.query_read.specs.declared.tree.Join.{Join}
-use Rattle.query_read.specs.declared.tree.JoinKind.TheVariants as join
-use Rattle.query_read.specs.declared.tree.Source.{Source}
-use Rattle.query_read.specs.declared.tree.SortKey.{SortKey}
-use Rattle.query_read.specs.declared.tree.SortBy.TheVariants as by
-use Rattle.query_read.specs.declared.tree.Direction.TheVariants.{Ascending}
-use Rattle.query_read.specs.declared.tree.Query.{Query}
+use Rattle.query_trees.specs.declared.expr.BinaryOp.{BinaryOp}
+use Rattle.query_trees.specs.declared.expr.BinaryOp.TheVariants as op
+use Rattle.query_trees.specs.declared.expr.Sign.{Sign}
+use Rattle.query_trees.specs.declared.expr.Sign.TheVariants as sign
+use Rattle.query_trees.specs.declared.expr.AggregateKind.{AggregateKind}
+use Rattle.query_trees.specs.declared.expr.AggregateKind.TheVariants as aggregate
+use Rattle.query_trees.specs.declared.expr.ColumnName.{ColumnName}
+use Rattle.query_trees.specs.declared.expr.Divisor.{Divisor}
+use Rattle.query_trees.specs.declared.expr.Expr.{Expr}
+use Rattle.query_trees.specs.declared.expr.Form.{Form}
+use Rattle.query_trees.specs.declared.expr.Form.TheVariants as f
+use Rattle.query_trees.specs.declared.clauses.Alias.{Alias}
+use Rattle.query_trees.specs.declared.clauses.SelectList.{SelectList}
+use Rattle.query_trees.specs.declared.clauses.TableName.{TableName}
+use Rattle.query_trees.specs.declared.clauses.Join.{Join}
+use Rattle.query_trees.specs.declared.clauses.JoinKind.TheVariants as join
+use Rattle.query_trees.specs.declared.clauses.Source.{Source}
+use Rattle.query_trees.specs.declared.clauses.SortKey.{SortKey}
+use Rattle.query_trees.specs.declared.clauses.SortBy.TheVariants as by
+use Rattle.query_trees.specs.declared.clauses.Direction.TheVariants.{Ascending}
+use Rattle.query_trees.specs.declared.query.Query.{Query}
+use Rattle.query_trees.specs.Nodes.{node}
 use Rattle.query_read.specs.declared.enclosing.Enclosure.{Enclosure}
 use Rattle.query_read.specs.declared.grouping.Grouping.{Grouping}
 
@@ -89,9 +90,6 @@ aggregate_of k.Avg = aggregate.Avg
 aggregate_of kind = aggregate.Sum
 
 -- ---- expressions
-
-abbrev pub node : ℕ → Form → Expr
-node at form = record { at = at; form = form }
 
 -- two expressions, from the first byte of the left one on
 abbrev pub binary : BinaryOp → ℕ → Expr → Expr → Expr

@@ -15,7 +15,7 @@ use Rattle.sql_read.specs.Tokens.{Tokens, tokens}
 use Rattle.sql_read.specs.SchemaText.{kind_at, place_of}
 use Rattle.query_read.specs.declared.fault.Fault.{Fault}
 use Rattle.query_read.specs.declared.fault.Fault.TheVariants.{Unexpected, TooDeep, NoDate, NoSpan, OutOfRange}
-use Rattle.query_read.specs.declared.tree.Query.{Query}
+use Rattle.query_trees.specs.declared.query.Query.{Query}
 use Rattle.query_read.specs.Asked.{all, order_alone}
 use Rattle.query_read.specs.Marked.{marked}
 use Rattle.query_read.specs.Clauses.{query}

@@ -7,18 +7,18 @@ ghost use Rattle.query_read.specs.ExpressionParsers as spec;
 use crate::expecting::{Class, expect, expect_of, is_next, is_next_of, refused};
 use crate::fault::Fault;
 use crate::literals::content;
-use crate::nodes::{bare, divided, divisor_of, node, qualified, sign_of};
-use crate::tree::{ColumnName, Divisor, Expr, Form};
+use crate::nodes::{bare, divided, divisor_of, qualified, sign_of};
 use phrases::{Cursor, ReadError};
+use query_trees::{ColumnName, Divisor, Expr, Form, node};
 use sql_read::{Kind, Token};
 use std::alloc::Global;
 
 #[tactic(auto, unfolding(crate::specs::ExpressionParsers::number))]
-pub fn number(tokens: &mut Cursor<'_, Token>) -> Result<Expr, ReadError<Fault>>
+pub fn number(alloc: Global, tokens: &mut Cursor<'_, Token>) -> Result<Expr, ReadError<Fault>>
     ensures { Reads (spec.number tokens.old) result tokens.new }
 {
     let t = expect(tokens, Kind::Digits)?;
-    Ok(node(t.at, Form::Number(t.value)))
+    Ok(node(alloc, t.at, Form::Number(t.value))?)
 }
 
 #[tactic(auto, unfolding(crate::specs::ExpressionParsers::literal))]
@@ -30,7 +30,8 @@ pub fn literal(
     ensures { Reads (spec.literal text.now tokens.old) result tokens.new }
 {
     let t = expect(tokens, Kind::Quoted)?;
-    Ok(node(t.at, Form::Text(content(alloc, text, t)?)))
+    let value = content(alloc, text, t)?;
+    Ok(node(alloc, t.at, Form::Text(value))?)
 }
 
 /// A column: `name ["." name]`.
@@ -61,7 +62,8 @@ pub fn reference(
     ensures { Reads (spec.reference text.now tokens.old) result tokens.new }
 {
     let c = column(alloc, text, tokens)?;
-    Ok(node(c.at, Form::Column(c)))
+    let first = c.at;
+    Ok(node(alloc, first, Form::Column(c))?)
 }
 
 /// What a division divides by: `["+" | "-"] integer`.
@@ -112,10 +114,14 @@ fn stars(tokens: &mut Cursor<'_, Token>, levels: u8) -> Result<Token, ReadError<
 
 /// `COUNT(*)`.
 #[tactic(auto, unfolding(crate::specs::ExpressionParsers::count))]
-pub fn count(tokens: &mut Cursor<'_, Token>, levels: u8) -> Result<Expr, ReadError<Fault>>
+pub fn count(
+    alloc: Global,
+    tokens: &mut Cursor<'_, Token>,
+    levels: u8,
+) -> Result<Expr, ReadError<Fault>>
     ensures { Reads (spec.count (spec.stars levels) tokens.old) result tokens.new }
 {
     let t = expect(tokens, Kind::Count)?;
     stars(tokens, levels)?;
-    Ok(node(t.at, Form::CountAll))
+    Ok(node(alloc, t.at, Form::CountAll)?)
 }

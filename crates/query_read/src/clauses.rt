@@ -13,8 +13,8 @@ use crate::expr::expr;
 use crate::fault::Fault;
 use crate::grouping::Grouping;
 use crate::sources::alias;
-use crate::tree::{ColumnName, Direction, Expr, SelectItem, SelectList, SortBy, SortKey};
 use phrases::{Cursor, ReadError};
+use query_trees::{ColumnName, Direction, Expr, SelectItem, SelectList, SortBy, SortKey};
 use sql_read::{Kind, Listing, Token};
 use std::alloc::Global;
 

@@ -11,10 +11,11 @@ use crate::days::{day_in_range, day_of, moved, span_of};
 use crate::expecting::{Class, expect, expect_of, is_next_of, refused};
 use crate::fault::Fault;
 use crate::literals::inner;
-use crate::nodes::{date_node, sign_of};
-use crate::tree::{Expr, Sign};
+use crate::nodes::sign_of;
 use phrases::{Cursor, ReadError};
+use query_trees::{Expr, Form, node};
 use sql_read::{Kind, Token, same_kind};
+use std::alloc::Global;
 
 /// The day of a DATE's text.
 #[tactic(auto, unfolding(crate::specs::ExpressionParsers::date_text, crate::specs::ExpressionParsers::sound, phrases::specs::Parsers::expect))]
@@ -96,11 +97,15 @@ fn more_steps(
 
 /// A date with its intervals.
 #[tactic(auto, unfolding(crate::specs::ExpressionParsers::date))]
-pub fn date(text: &[u8], tokens: &mut Cursor<'_, Token>) -> Result<Expr, ReadError<Fault>>
+pub fn date(
+    alloc: Global,
+    text: &[u8],
+    tokens: &mut Cursor<'_, Token>,
+) -> Result<Expr, ReadError<Fault>>
     ensures { Reads (spec.date asked.all text.now tokens.old) result tokens.new }
 {
     let t = expect(tokens, Kind::Date)?;
     let day = date_text(text, tokens)?;
     let day = more_steps(text, tokens, day)?;
-    Ok(date_node(t.at, day))
+    Ok(node(alloc, t.at, Form::Date(day))?)
 }

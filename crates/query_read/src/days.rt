@@ -6,8 +6,8 @@ ghost use Rattle.std.specs.List.{list_all};
 ghost use Rattle.std.specs.Option.{option_map};
 ghost use Rattle.query_read.specs.Days as spec;
 
-use crate::tree::Sign;
 use jiff_core::civil::Date;
+use query_trees::Sign;
 use sql_read::integer_within;
 
 /// Whether there is a digit at the place.

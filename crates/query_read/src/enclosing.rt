@@ -1,6 +1,6 @@
 //! What stands in parentheses.
 
-use crate::tree::Expr;
+use query_trees::Expr;
 
 /// An expression in parentheses.
 #[derive(Drop)]

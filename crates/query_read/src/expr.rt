@@ -10,12 +10,9 @@ use crate::dates::date;
 use crate::enclosing::Enclosure;
 use crate::expecting::{Class, expect, expect_of, is_next, is_next_of, refused, shut};
 use crate::fault::Fault;
-use crate::nodes::{
-    aggregated, between_node, binary, comparison, enclosed_node, in_node, not_node, signed_node,
-    sum_op,
-};
-use crate::tree::{BinaryOp, Expr, Polarity};
+use crate::nodes::{aggregated, between_node, binary, comparison, in_node, signed_node, sum_op};
 use phrases::{Cursor, ReadError};
+use query_trees::{BinaryOp, Expr, Form, Polarity, node};
 use sql_read::{Kind, Token};
 use sqlite_items::Items;
 use std::alloc::Global;
@@ -32,15 +29,15 @@ fn atom(
     ensures { Reads (spec.atom asked.all text.now (spec.under asked.all text.now levels) tokens.old) result tokens.new }
 {
     if is_next(tokens, Kind::Digits) {
-        number(tokens)
+        number(alloc, tokens)
     } else if is_next(tokens, Kind::Quoted) {
         literal(alloc, text, tokens)
     } else if is_next(tokens, Kind::Date) {
-        date(text, tokens)
+        date(alloc, text, tokens)
     } else if is_next(tokens, Kind::Name) {
         reference(alloc, text, tokens)
     } else if is_next(tokens, Kind::Count) {
-        count(tokens, levels)
+        count(alloc, tokens, levels)
     } else if is_next_of(tokens, Class::Aggregate) {
         aggregate(alloc, text, tokens, levels)
     } else {
@@ -74,7 +71,7 @@ fn enclosed(
     ensures { Reads (spec.enclosed (spec.under asked.all text.now levels) tokens.old) result tokens.new }
 {
     let of = parens(alloc, text, tokens, levels)?;
-    Ok(enclosed_node(alloc, of.at, of.value)?)
+    Ok(node(alloc, of.at, Form::Enclosed(of.value))?)
 }
 
 /// `"(" expr ")"`
@@ -424,7 +421,7 @@ fn nots(
     }
     let at = expect(tokens, Kind::Not)?.at;
     let of = neg(alloc, text, tokens, levels - 1)?;
-    Ok(not_node(alloc, at, of)?)
+    Ok(node(alloc, at, Form::Not(of))?)
 }
 
 /// `neg = {NOT} pred`

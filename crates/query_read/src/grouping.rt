@@ -1,6 +1,6 @@
 //! What GROUP BY says.
 
-use crate::tree::{ColumnName, Expr};
+use query_trees::{ColumnName, Expr};
 use sql_read::Listing;
 
 /// The columns of GROUP BY, and the condition of its HAVING.

@@ -18,13 +18,8 @@ mod nodes;
 mod query;
 mod query_text;
 mod sources;
-mod tree;
 
 pub use query_text::read_query;
-pub use tree::{
-    AggregateKind, Alias, BinaryOp, ColumnName, Direction, Divisor, Expr, Form, Join, JoinKind,
-    Polarity, Query, SelectItem, SelectList, Sign, SortBy, SortKey, Source, TableName,
-};
 
 #[cfg(test)]
 mod tests;

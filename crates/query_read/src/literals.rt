@@ -3,7 +3,8 @@
 ghost use Rattle.std.specs.Prelude.{◌≡◌, IfOk, false};
 ghost use Rattle.query_read.specs.Days as spec;
 
-use sql_read::{Listing, Token, extent};
+use io_edge::Name;
+use sql_read::{Token, extent};
 use std::alloc::{AllocError, Global};
 
 /// The bytes between the quotes of a literal.
@@ -16,10 +17,10 @@ pub fn inner(text: &[u8], t: Token) -> &[u8]
 }
 
 /// The value of what stands between quotes: two quotes in a row are one.
-fn single_quoted(alloc: Global, z: &[u8]) -> Result<Listing<u8>, AllocError>
-    ensures { IfOk result (λ v. v ≡ spec.single_quoted false z.now) }
+fn single_quoted(alloc: Global, z: &[u8]) -> Result<Vec<u8>, AllocError>
+    ensures { IfOk result (λ v. v.items ≡ spec.single_quoted false z.now) }
 {
-    let mut out = Listing::new(alloc);
+    let mut out = Vec::new(alloc);
     let mut is_second = false;
     let mut ahead = z;
     while let [b, rest @ ..] = ahead {
@@ -35,8 +36,9 @@ fn single_quoted(alloc: Global, z: &[u8]) -> Result<Listing<u8>, AllocError>
 }
 
 /// The value of a text literal.
-pub fn content(alloc: Global, text: &[u8], t: Token) -> Result<Listing<u8>, AllocError>
+pub fn content(alloc: Global, text: &[u8], t: Token) -> Result<Name, AllocError>
     ensures { IfOk result (λ v. v ≡ spec.content text.now t) }
 {
-    single_quoted(alloc, inner(text, t))
+    let z = single_quoted(alloc, inner(text, t))?;
+    Ok(Name::from_string(String::from_utf8_lossy(alloc, z.as_slice())?))
 }

@@ -2,10 +2,11 @@
 
 ghost use Rattle.std.specs.Prelude.{◌≡◌, IfOk};
 ghost use Rattle.query_read.specs.Nodes as spec;
+ghost use Rattle.query_trees.specs.Nodes as trees;
 
-use crate::tree::{AggregateKind, BinaryOp, ColumnName, Divisor, Expr, Form, Polarity, Sign};
+use query_trees::{AggregateKind, BinaryOp, ColumnName, Divisor, Expr, Form, Polarity, Sign, node};
 use sql_read::{Kind, Token, name_at};
-use sqlite_items::{Boxed, Items};
+use sqlite_items::Items;
 use std::alloc::{AllocError, Global};
 
 pub fn sign_of(kind: Kind) -> Sign
@@ -50,26 +51,12 @@ pub fn aggregate_of(kind: Kind) -> AggregateKind
     }
 }
 
-pub fn node(at: u32, form: Form) -> Expr
-    ensures { result ≡ spec.node at form }
-{
-    Expr { at, form }
-}
-
-pub fn date_node(at: u32, day: i32) -> Expr
-    ensures { result ≡ spec.node at (Form.Date day) }
-{
-    node(at, Form::Date(day))
-}
-
 /// Two expressions, from the first byte of the left one on.
 pub fn binary(alloc: Global, op: BinaryOp, at: u32, a: Expr, b: Expr) -> Result<Expr, AllocError>
     ensures { IfOk result (λ x. x ≡ spec.binary op at a b) }
 {
     let first = a.at;
-    let left = Boxed::new(alloc, a)?;
-    let right = Boxed::new(alloc, b)?;
-    Ok(node(first, Form::Binary(op, at, left, right)))
+    node(alloc, first, Form::Binary(op, at, a, b))
 }
 
 pub fn divisor_of(sign: Option<Sign>, n: Token) -> Divisor
@@ -86,32 +73,19 @@ pub fn divided(alloc: Global, at: u32, a: Expr, by: Divisor) -> Result<Expr, All
     ensures { IfOk result (λ x. x ≡ spec.divided at a by) }
 {
     let first = a.at;
-    Ok(node(first, Form::Divide(at, Boxed::new(alloc, a)?, by)))
+    node(alloc, first, Form::Divide(at, a, by))
 }
 
 pub fn aggregated(alloc: Global, t: Token, of: Expr) -> Result<Expr, AllocError>
-    ensures { IfOk result (λ x. x ≡ spec.node t.at (Form.Aggregate (spec.aggregate_of t.kind) of)) }
+    ensures { IfOk result (λ x. x ≡ trees.node t.at (Form.Aggregate (spec.aggregate_of t.kind) of)) }
 {
-    let of = Boxed::new(alloc, of)?;
-    Ok(node(t.at, Form::Aggregate(aggregate_of(t.kind), of)))
-}
-
-pub fn enclosed_node(alloc: Global, at: u32, of: Expr) -> Result<Expr, AllocError>
-    ensures { IfOk result (λ x. x ≡ spec.node at (Form.Enclosed of)) }
-{
-    Ok(node(at, Form::Enclosed(Boxed::new(alloc, of)?)))
-}
-
-pub fn not_node(alloc: Global, at: u32, of: Expr) -> Result<Expr, AllocError>
-    ensures { IfOk result (λ x. x ≡ spec.node at (Form.Not of)) }
-{
-    Ok(node(at, Form::Not(Boxed::new(alloc, of)?)))
+    node(alloc, t.at, Form::Aggregate(aggregate_of(t.kind), of))
 }
 
 pub fn signed_node(alloc: Global, s: Token, of: Expr) -> Result<Expr, AllocError>
-    ensures { IfOk result (λ x. x ≡ spec.node s.at (Form.Signed (spec.sign_of s.kind) of)) }
+    ensures { IfOk result (λ x. x ≡ trees.node s.at (Form.Signed (spec.sign_of s.kind) of)) }
 {
-    Ok(node(s.at, Form::Signed(sign_of(s.kind), Boxed::new(alloc, of)?)))
+    node(alloc, s.at, Form::Signed(sign_of(s.kind), of))
 }
 
 pub fn between_node(
@@ -122,13 +96,10 @@ pub fn between_node(
     low: Expr,
     high: Expr,
 ) -> Result<Expr, AllocError>
-    ensures { IfOk result (λ x. x ≡ spec.node a.at (Form.Between polarity at a low high)) }
+    ensures { IfOk result (λ x. x ≡ trees.node a.at (Form.Between polarity at a low high)) }
 {
     let first = a.at;
-    let a = Boxed::new(alloc, a)?;
-    let low = Boxed::new(alloc, low)?;
-    let high = Boxed::new(alloc, high)?;
-    Ok(node(first, Form::Between(polarity, at, a, low, high)))
+    node(alloc, first, Form::Between(polarity, at, a, low, high))
 }
 
 pub fn in_node(
@@ -138,11 +109,10 @@ pub fn in_node(
     a: Expr,
     among: Items<Expr>,
 ) -> Result<Expr, AllocError>
-    ensures { IfOk result (λ x. x ≡ spec.node a.at (Form.In polarity at a among)) }
+    ensures { IfOk result (λ x. x ≡ trees.node a.at (Form.In polarity at a among)) }
 {
     let first = a.at;
-    let a = Boxed::new(alloc, a)?;
-    Ok(node(first, Form::In(polarity, at, a, among)))
+    node(alloc, first, Form::In(polarity, at, a, among))
 }
 
 /// A column's name alone.

@@ -11,8 +11,8 @@ use crate::expecting::{expect, is_next};
 use crate::fault::Fault;
 use crate::grouping::Grouping;
 use crate::sources::source;
-use crate::tree::{Expr, Query, SelectList, SortKey, Source};
 use phrases::{Cursor, ReadError};
+use query_trees::{Expr, Query, SelectList, SortKey, Source};
 use sql_read::{Kind, Listing, Token};
 use std::alloc::Global;
 

@@ -6,14 +6,14 @@ ghost use Rattle.sql_read.specs.SchemaText.{place_of, kind_at};
 ghost use Rattle.query_read.specs.Asked.{all};
 ghost use Rattle.query_read.specs.ClauseParsers as parsers;
 ghost use Rattle.query_read.specs.QueryText.{query_of, read_tokens, query_tokens, refusal_at, kind_of, tokens_before, IsQuery, IsRefusal};
-ghost use Rattle.query_read.specs.declared.tree.Query.{Query as Tree};
+ghost use Rattle.query_trees.specs.declared.query.Query.{Query as Tree};
 ghost use Rattle.sql_read.specs.declared.refusal.SqlRefusal.TheVariants.{NoMemory};
 
 use crate::fault::Fault;
 use crate::marking::marked;
 use crate::query::query;
-use crate::tree::Query;
 use phrases::{Cursor, ReadError};
+use query_trees::Query;
 use sql_read::{SqlKind, SqlRefusal, Token, refused_for_itself, tokens};
 use std::alloc::Global;
 use std::str::from_utf8;

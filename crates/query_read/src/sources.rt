@@ -8,8 +8,8 @@ ghost use Rattle.query_read.specs.ClauseParsers as spec;
 use crate::atoms::column;
 use crate::expecting::{Class, expect, is_next, is_next_of};
 use crate::fault::Fault;
-use crate::tree::{Alias, ColumnName, Join, JoinKind, Source, TableName};
 use phrases::{Cursor, ReadError};
+use query_trees::{Alias, ColumnName, Join, JoinKind, Source, TableName};
 use sql_read::{Kind, Listing, Token, name_at};
 use std::alloc::{AllocError, Global};
 

@@ -6,11 +6,11 @@ use Rattle.sql_read.specs.declared.kind.Kind.TheVariants as k
 use Rattle.sql_read.specs.declared.token_list.Token.{Token}
 use Rattle.sql_read.specs.Lexis.{Bytes}
 use Rattle.sql_read.specs.Schema.{word}
-use Rattle.query_read.specs.declared.tree.Expr.{Expr}
-use Rattle.query_read.specs.declared.tree.SelectItem.{SelectItem}
-use Rattle.query_read.specs.declared.tree.SelectList.{SelectList}
-use Rattle.query_read.specs.declared.tree.SelectList.TheVariants as select
-use Rattle.query_read.specs.declared.tree.Query.{Query}
+use Rattle.query_trees.specs.declared.expr.Expr.{Expr}
+use Rattle.query_trees.specs.declared.clauses.SelectItem.{SelectItem}
+use Rattle.query_trees.specs.declared.clauses.SelectList.{SelectList}
+use Rattle.query_trees.specs.declared.clauses.SelectList.TheVariants as select
+use Rattle.query_trees.specs.declared.query.Query.{Query}
 use Rattle.query_read.specs.declared.grouping.Grouping.{Grouping}
 use Rattle.query_read.specs.Asked.{Asked}
 use Rattle.query_read.specs.Nodes.{grouping, query_of}

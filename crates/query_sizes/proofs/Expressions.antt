@@ -6,16 +6,17 @@ use Rattle.sql_read.specs.declared.kind.Kind.TheVariants as k
 use Rattle.sql_read.specs.declared.token_list.Token.{Token}
 use Rattle.sql_read.specs.Lexis.{Bytes}
 use Rattle.sql_read.specs.Schema.{is, word}
-use Rattle.query_read.specs.declared.tree.BinaryOp.{BinaryOp}
-use Rattle.query_read.specs.declared.tree.BinaryOp.TheVariants as op
-use Rattle.query_read.specs.declared.tree.Polarity.{Polarity}
-use Rattle.query_read.specs.declared.tree.Polarity.TheVariants.{Plain, Negated}
-use Rattle.query_read.specs.declared.tree.Expr.{Expr}
-use Rattle.query_read.specs.declared.tree.Form.TheVariants as f
+use Rattle.query_trees.specs.declared.expr.BinaryOp.{BinaryOp}
+use Rattle.query_trees.specs.declared.expr.BinaryOp.TheVariants as op
+use Rattle.query_trees.specs.declared.expr.Polarity.{Polarity}
+use Rattle.query_trees.specs.declared.expr.Polarity.TheVariants.{Plain, Negated}
+use Rattle.query_trees.specs.declared.expr.Expr.{Expr}
+use Rattle.query_trees.specs.declared.expr.Form.TheVariants as f
 use Rattle.query_read.specs.declared.enclosing.Enclosure.{Enclosure}
 use Rattle.query_read.specs.Asked.{Asked}
 use Rattle.query_read.specs.Days.{content}
-use Rattle.query_read.specs.Nodes.{signs, compares, aggregates, of, sign_of, sum_op, comparison, aggregate_of, node, enclosure}
+use Rattle.query_trees.specs.Nodes.{node}
+use Rattle.query_read.specs.Nodes.{signs, compares, aggregates, of, sign_of, sum_op, comparison, aggregate_of, enclosure}
 use Rattle.query_read.specs.Expressions as g
 use Rattle.query_read.specs.Expressions.{Depth}
 use Rattle.query_sizes.proofs.Costs.{cost, costs, cost-Number, cost-Text, cost-Date, cost-Column, cost-CountAll, cost-Aggregate, cost-Enclosed, cost-Signed, cost-Not, cost-Binary, cost-Divide, cost-Between, cost-In}

@@ -1,13 +1,13 @@
 -- Each form of an expression is typed within what it costs, where its operands are.
 use Rattle.std.proofs.Common.{◌≡◌, ℕ, ℤ, ◌+◌, ◌≤◌, true, List, [], ◌∷◌, ◌++◌, length, map, Some, None, refl, ap, arith}
-use Rattle.query_read.specs.declared.tree.AggregateKind.{AggregateKind as Written}
-use Rattle.query_read.specs.declared.tree.BinaryOp.{BinaryOp}
-use Rattle.query_read.specs.declared.tree.ColumnName.{ColumnName}
-use Rattle.query_read.specs.declared.tree.Divisor.{Divisor}
-use Rattle.query_read.specs.declared.tree.Polarity.{Polarity}
-use Rattle.query_read.specs.declared.tree.Sign.{Sign}
-use Rattle.query_read.specs.declared.tree.Expr.{Expr}
-use Rattle.query_read.specs.declared.tree.Form.{Form-F}
+use Rattle.query_trees.specs.declared.expr.AggregateKind.{AggregateKind as Written}
+use Rattle.query_trees.specs.declared.expr.BinaryOp.{BinaryOp}
+use Rattle.query_trees.specs.declared.expr.ColumnName.{ColumnName}
+use Rattle.query_trees.specs.declared.expr.Divisor.{Divisor}
+use Rattle.query_trees.specs.declared.expr.Polarity.{Polarity}
+use Rattle.query_trees.specs.declared.expr.Sign.{Sign}
+use Rattle.query_trees.specs.declared.expr.Expr.{Expr}
+use Rattle.query_trees.specs.declared.expr.Form.{Form-F}
 use Rattle.query_types.specs.declared.refusal.TypeKind.TheVariants.{TypesDiffer, NestedAggregate, ZeroDivisor}
 use Rattle.query_types.specs.declared.kinds.Role.{Role}
 use Rattle.query_types.specs.declared.kinds.Role.TheVariants.{Side, Alone}

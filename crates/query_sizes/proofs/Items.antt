@@ -2,12 +2,12 @@
 use Rattle.std.proofs.Common.{◌≡◌, ℕ, ◌+◌, ◌≤◌, ◌<◌, nat_le, false, List, [], ◌∷◌, ◌++◌, length, length-append, Option, Some, None, Ok, ap, subst, arith}
 use Rattle.std.proofs.lemmas.Bool.Decides.{nat_tests}
 use Rattle.sql_read.specs.declared.definition.TableDef.{TableDef}
-use Rattle.query_read.specs.declared.tree.Expr.{Expr}
-use Rattle.query_read.specs.declared.tree.Join.{Join}
-use Rattle.query_read.specs.declared.tree.Source.{Source}
-use Rattle.query_read.specs.declared.tree.SelectItem.{SelectItem}
-use Rattle.query_read.specs.declared.tree.SelectList.{SelectList}
-use Rattle.query_read.specs.declared.tree.SelectList.TheVariants as select
+use Rattle.query_trees.specs.declared.expr.Expr.{Expr}
+use Rattle.query_trees.specs.declared.clauses.Join.{Join}
+use Rattle.query_trees.specs.declared.clauses.Source.{Source}
+use Rattle.query_trees.specs.declared.clauses.SelectItem.{SelectItem}
+use Rattle.query_trees.specs.declared.clauses.SelectList.{SelectList}
+use Rattle.query_trees.specs.declared.clauses.SelectList.TheVariants as select
 use Rattle.query_types.specs.declared.refusal.TypeKind.TheVariants.{TypesDiffer, TooManyItems}
 use Rattle.query_types.specs.declared.kinds.Role.TheVariants.{Alone}
 use Rattle.query_types.specs.declared.stars.Starred.{Starred}

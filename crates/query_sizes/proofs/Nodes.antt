@@ -1,9 +1,9 @@
 -- The nodes of a typed expression, by its form.
 use Rattle.std.proofs.Common.{◌≡◌, ℕ, ℤ, ◌+◌, List, map, sym, ap, ◌∙◌}
 use Rattle.sql_read.specs.declared.definition.ColumnKind.{ColumnKind}
-use Rattle.query_read.specs.declared.tree.BinaryOp.{BinaryOp}
-use Rattle.query_read.specs.declared.tree.Polarity.{Polarity}
-use Rattle.query_read.specs.declared.tree.Sign.{Sign}
+use Rattle.query_trees.specs.declared.expr.BinaryOp.{BinaryOp}
+use Rattle.query_trees.specs.declared.expr.Polarity.{Polarity}
+use Rattle.query_trees.specs.declared.expr.Sign.{Sign}
 use Rattle.query_types.specs.declared.typed.ColumnRef.{ColumnRef}
 use Rattle.query_types.specs.declared.typed.TypedExpr.{TypedExpr}
 use Rattle.query_types.specs.declared.typed.TypedExpr.TheOpen.{TypedExpr-F}

@@ -1,6 +1,6 @@
 -- The parts of a condition have no more nodes than the condition.
 use Rattle.std.proofs.Common.{◌≡◌, ◌+◌, ◌≤◌, Bool, true, false, [], ◌∷◌, ◌++◌, map, None, unwrap_or, refl, ap, ◌∙◌, subst, arith}
-use Rattle.query_read.specs.declared.tree.BinaryOp.{BinaryOp}
+use Rattle.query_trees.specs.declared.expr.BinaryOp.{BinaryOp}
 use Rattle.query_types.specs.declared.typed.TypedExpr.{TypedExpr, roll-TypedExpr}
 use Rattle.query_types.specs.declared.typed.TypedExpr.TheOpen.{TypedExpr-F}
 use Rattle.query_types.specs.declared.typed.TypedExpr.TheFolds.{map-TypedExpr, ind-TypedExpr, para-roll-TypedExpr}

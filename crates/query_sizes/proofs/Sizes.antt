@@ -1,7 +1,7 @@
 -- A query that is read and typed is small.
 use Rattle.std.proofs.Common.{◌≡◌, ◌+◌, ◌*◌, ◌≤◌, List, [], length, Option, Ok, ap, ◌∙◌, arith}
 use Rattle.sql_read.specs.declared.definition.TableDef.{TableDef}
-use Rattle.query_read.specs.declared.tree.Query.{Query}
+use Rattle.query_trees.specs.declared.query.Query.{Query}
 use Rattle.query_read.specs.Asked.{all}
 use Rattle.query_read.specs.QueryText.{query_tokens}
 use Rattle.query_types.specs.declared.items.Shown.{Shown}

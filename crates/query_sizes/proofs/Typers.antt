@@ -1,7 +1,7 @@
 -- Every expression is typed within what it costs.
 use Rattle.std.proofs.Common.{◌≡◌, ℕ, ◌+◌, refl, sym, ap, ◌∙◌, subst}
-use Rattle.query_read.specs.declared.tree.Expr.{Expr, Expr-F, roll-Expr, map-Expr, fold-roll-Expr, ind-Expr}
-use Rattle.query_read.specs.declared.tree.Form.{Form, Form-F, roll-Form, map-Form, fold-roll-Form}
+use Rattle.query_trees.specs.declared.expr.Expr.{Expr, Expr-F, roll-Expr, map-Expr, fold-roll-Expr, ind-Expr}
+use Rattle.query_trees.specs.declared.expr.Form.{Form, Form-F, roll-Form, map-Form, fold-roll-Form}
 use Rattle.query_types.specs.Expressions.{Typer, form_typer, expr_typer, typer}
 use Rattle.query_types.proofs.Typers.{form_typed}
 use Rattle.query_sizes.proofs.Totals.{total-map}

@@ -3,7 +3,7 @@
 use Rattle.std.specs.Prelude.{◌≡◌, ℕ, ◌+◌, ◌≤◌, List, length, sum, sum_by, Option, Some, None, Ok}
 use Rattle.sql_read.specs.declared.definition.TableDef.{TableDef}
 use Rattle.sql_read.specs.Lexis.{Bytes}
-use Rattle.query_read.specs.declared.tree.Query.{Query}
+use Rattle.query_trees.specs.declared.query.Query.{Query}
 use Rattle.query_read.specs.QueryText.{IsQuery}
 use Rattle.query_types.specs.declared.typed.TypedExpr.{TypedExpr}
 use Rattle.query_types.specs.declared.typed.TypedExpr.TheOpen.{TypedExpr-F}

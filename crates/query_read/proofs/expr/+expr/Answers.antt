@@ -4,7 +4,7 @@ use Rattle.phrases.specs.Parsers.{turns}
 use Rattle.phrases.proofs.Shapes.{one_more, no_more}
 use Rattle.sql_read.specs.declared.kind.Kind.TheVariants as k
 use Rattle.sql_read.specs.Schema.{is}
-use Rattle.query_read.specs.declared.tree.BinaryOp.TheVariants as op
+use Rattle.query_trees.specs.declared.expr.BinaryOp.TheVariants as op
 use Rattle.query_read.specs.Asked.{all}
 use Rattle.query_read.specs.Classes.{multiplies}
 use Rattle.query_read.specs.Nodes.{of, signs}

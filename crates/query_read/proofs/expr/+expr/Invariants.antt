@@ -2,7 +2,7 @@ use Rattle.std.proofs.Common.{◌≡◌, ◌+◌, ◌-◌, ◌*◌}
 use Rattle.phrases.specs.Parsers.{turns}
 use Rattle.sql_read.specs.declared.kind.Kind.TheVariants as k
 use Rattle.sql_read.specs.Schema.{is}
-use Rattle.query_read.specs.declared.tree.BinaryOp.TheVariants as op
+use Rattle.query_trees.specs.declared.expr.BinaryOp.TheVariants as op
 use Rattle.query_read.specs.Asked.{all}
 use Rattle.query_read.specs.Classes.{multiplies}
 use Rattle.query_read.specs.Nodes.{of, signs}
