@@ -1,4 +1,3 @@
-mod DateFacts
 mod Spans
 mod TokenKinds
 mod Checked

@@ -21,7 +21,8 @@ use Rattle.query_trees.specs.declared.expr.Expr.{Expr}
 use Rattle.query_trees.specs.declared.expr.Form.TheVariants as f
 use Rattle.query_read.specs.declared.enclosing.Enclosure.{Enclosure}
 use Rattle.query_read.specs.Asked.{Asked}
-use Rattle.query_read.specs.Days.{content, day_at, span_at, moved, no_date, no_span, leaves}
+use Rattle.query_read.specs.Literals.{content}
+use Rattle.query_read.specs.Days.{day_at, span_at, moved, no_date, no_span, leaves}
 use Rattle.query_read.specs.Classes.{multiplies, ranges}
 use Rattle.query_trees.specs.Nodes.{node}
 use Rattle.query_read.specs.Nodes.{signs, steps, compares, aggregates, of, sign_of, sum_op, comparison, aggregate_of, binary, divisor_of, divided, enclosure, bare, qualified}

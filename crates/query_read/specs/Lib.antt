@@ -1,4 +1,5 @@
 pub mod Asked
+pub mod Literals
 pub mod Days
 pub mod Marked
 pub mod Nodes

@@ -7,11 +7,12 @@ ghost use Rattle.query_read.specs.Asked as asked;
 ghost use Rattle.query_read.specs.Days as days;
 ghost use Rattle.query_read.specs.ExpressionParsers as spec;
 
-use crate::days::{day_in_range, day_of, moved, span_of};
+use crate::days::{moved, span_of};
 use crate::expecting::{Class, expect, expect_of, is_next_of, refused};
 use crate::fault::Fault;
 use crate::literals::inner;
 use crate::nodes::sign_of;
+use civil_days::{day_in_range, day_of};
 use phrases::{Cursor, ReadError};
 use query_trees::{Expr, Form, node};
 use sql_read::{Kind, Token, same_kind};

@@ -13,7 +13,7 @@ use phrases::{Cursor, ReadError};
 use sql_read::{Kind, Token, same_kind};
 
 /// Kinds of tokens that stand in one place.
-#[derive(Clone, Copy, Debug)]
+#[derive(Clone, Copy)]
 pub enum Class {
     /// `+` and `-`.
     Sign,

@@ -1,7 +1,7 @@
 //! What stands in text literals.
 
 ghost use Rattle.std.specs.Prelude.{◌≡◌, IfOk, false};
-ghost use Rattle.query_read.specs.Days as spec;
+ghost use Rattle.query_read.specs.Literals as spec;
 
 use io_edge::Name;
 use sql_read::{Token, extent};

@@ -14,7 +14,7 @@ use Rattle.query_trees.specs.declared.expr.Expr.{Expr}
 use Rattle.query_trees.specs.declared.expr.Form.TheVariants as f
 use Rattle.query_read.specs.declared.enclosing.Enclosure.{Enclosure}
 use Rattle.query_read.specs.Asked.{Asked}
-use Rattle.query_read.specs.Days.{content}
+use Rattle.query_read.specs.Literals.{content}
 use Rattle.query_trees.specs.Nodes.{node}
 use Rattle.query_read.specs.Nodes.{signs, compares, aggregates, of, sign_of, sum_op, comparison, aggregate_of, enclosure}
 use Rattle.query_read.specs.Expressions as g

@@ -1,5 +1,5 @@
 use Rattle.std.proofs.Common.{◌≡◌, ◌++◌, length, false}
-use Rattle.query_read.specs.Days.{single_quoted}
+use Rattle.query_read.specs.Literals.{single_quoted}
 use Rattle.query_read.proofs.literals.single_quoted.Given as goal
 
 abbrev pub invariant-loop-ahead : goal.invariant-loop-ahead

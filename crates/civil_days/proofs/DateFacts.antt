@@ -3,7 +3,7 @@ use Rattle.std.proofs.Common.{◌≡◌, ◌∙◌, ◌≤◌, ℕ, ℤ, pos, tr
 use Rattle.std.proofs.lemmas.Bool.{and_from, le-leb}
 use Rattle.std.proofs.lemmas.Int.{ints}
 use Rattle.jiff_core.specs.Calendar.{IsDate, days_from_civil}
-use Rattle.query_read.specs.Days.{day_of_civil, is_civil_date}
+use Rattle.civil_days.specs.Dates.{day_of_civil, is_civil_date}
 
 pub civil-date : (y m d : ℕ) → 1 ≤ y → IsDate (pos y) (pos m) (pos d) → is_civil_date y m d ≡ true
 civil-date y m d low h =

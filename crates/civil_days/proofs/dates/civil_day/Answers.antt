@@ -1,7 +1,7 @@
 use Rattle.std.proofs.Common.{rules, arith, ◌≡◌, ◌≤◌, ◌∙◌, pos, ap, to_z, w8, w16, w32, FitsSigned, IsOk, Some}
 use Rattle.std.proofs.lemmas.Int.{ints, to_z-of_z}
-use Rattle.query_read.proofs.DateFacts.{some-day}
-use Rattle.query_read.proofs.days.civil_day.Goals as goal
+use Rattle.civil_days.proofs.DateFacts.{some-day}
+use Rattle.civil_days.proofs.dates.civil_day.Goals as goal
 
 pub returns-in-Ok : goal.returns-in-Ok
 returns-in-Ok c =

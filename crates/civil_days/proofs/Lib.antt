@@ -1,0 +1,2 @@
+pub mod DateFacts
+mod Examples
