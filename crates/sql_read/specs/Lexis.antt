@@ -1,15 +1,15 @@
 -- What stands at the front of an SQL text: a token, blanks or a comment. The longest is taken.
 -- After SQL-92 (ISO/IEC 9075:1992), 5.2 <token> and <separator>, with words of ASCII letters, digits and underscores.
-use Rattle.std.specs.Prelude.{◌≤◌, ◌≡◌, ℕ, ◌+◌, ◌-◌, ◌*◌, Bool, true, false, not, ◌&&◌, ◌||◌, if◌then◌else◌, ◌==◌, nat_le, nat_lt, List, [], ◌∷◌, length, take, drop, map, fold, slice_index, Option, Some, None}
+use Rattle.std.specs.Prelude.{◌≤◌, ◌≡◌, ℕ, ◌+◌, ◌-◌, ◌*◌, Bool, true, false, not, ◌&&◌, ◌||◌, if◌then◌else◌, ◌==◌, nat_le, nat_lt, List, [], ◌∷◌, length, take, drop, fold, slice_index, Option, Some, None}
 use Rattle.std.specs.Char.{is_ascii_digit, is_ascii_alphanumeric, is_ascii_alphabetic}
 use Rattle.std.specs.List.{prefix_len}
 use Rattle.std.specs.Str.{str_eq_ignore_ascii_case}
 use Rattle.sql_read.specs.declared.kind.Kind.{Kind}
 use Rattle.sql_read.specs.declared.kind.Kind.TheVariants as k
-use Rattle.sql_read.specs.declared.kind.TheConstants.{RESERVED}
 use Rattle.sql_read.specs.declared.lexis.Class.{Class}
 use Rattle.sql_read.specs.declared.lexis.Class.TheVariants as class
 use Rattle.sql_read.specs.declared.lexis.Piece.{Piece}
+use Rattle.sql_read.specs.Reserved.{reserved_words}
 
 abbrev pub Bytes : Type 0
 Bytes = List ℕ
@@ -31,7 +31,7 @@ lookup (r ∷ rs) word = if str_eq_ignore_ascii_case r.0 word then r.1 else look
 
 -- a reserved word, in upper or lower case, or a name
 unfoldable pub word_kind : Bytes → Kind
-word_kind = lookup (map (λ r. (r.0.now, r.1)) RESERVED)
+word_kind = lookup reserved_words
 
 -- a piece without a value
 abbrev pub plain : Kind → ℕ → Piece

@@ -86,54 +86,56 @@ pub enum Kind {
 
 /// The reserved words, which are no names.
 const RESERVED: [(&[u8], Kind); 41] = [
-    (b"and", Kind::And),
-    (b"as", Kind::As),
-    (b"asc", Kind::Asc),
-    (b"avg", Kind::Avg),
-    (b"between", Kind::Between),
-    (b"bigint", Kind::Bigint),
-    (b"by", Kind::By),
-    (b"char", Kind::Char),
-    (b"coalesce", Kind::Coalesce),
-    (b"count", Kind::Count),
-    (b"create", Kind::Create),
-    (b"cross", Kind::Cross),
-    (b"date", Kind::Date),
-    (b"day", Kind::Day),
-    (b"decimal", Kind::Decimal),
-    (b"desc", Kind::Desc),
-    (b"distinct", Kind::Distinct),
-    (b"from", Kind::From),
-    (b"group", Kind::Group),
-    (b"having", Kind::Having),
-    (b"in", Kind::In),
-    (b"inner", Kind::Inner),
-    (b"int", Kind::Int),
-    (b"integer", Kind::Integer),
-    (b"interval", Kind::Interval),
-    (b"is", Kind::Is),
-    (b"join", Kind::Join),
-    (b"key", Kind::Key),
-    (b"max", Kind::Max),
-    (b"min", Kind::Min),
-    (b"not", Kind::Not),
-    (b"null", Kind::Null),
-    (b"on", Kind::On),
-    (b"or", Kind::Or),
-    (b"order", Kind::Order),
-    (b"primary", Kind::Primary),
-    (b"select", Kind::Select),
-    (b"sum", Kind::Sum),
-    (b"table", Kind::Table),
-    (b"varchar", Kind::Varchar),
-    (b"where", Kind::Where),
+    (b"AND", Kind::And),
+    (b"AS", Kind::As),
+    (b"ASC", Kind::Asc),
+    (b"AVG", Kind::Avg),
+    (b"BETWEEN", Kind::Between),
+    (b"BIGINT", Kind::Bigint),
+    (b"BY", Kind::By),
+    (b"CHAR", Kind::Char),
+    (b"COALESCE", Kind::Coalesce),
+    (b"COUNT", Kind::Count),
+    (b"CREATE", Kind::Create),
+    (b"CROSS", Kind::Cross),
+    (b"DATE", Kind::Date),
+    (b"DAY", Kind::Day),
+    (b"DECIMAL", Kind::Decimal),
+    (b"DESC", Kind::Desc),
+    (b"DISTINCT", Kind::Distinct),
+    (b"FROM", Kind::From),
+    (b"GROUP", Kind::Group),
+    (b"HAVING", Kind::Having),
+    (b"IN", Kind::In),
+    (b"INNER", Kind::Inner),
+    (b"INT", Kind::Int),
+    (b"INTEGER", Kind::Integer),
+    (b"INTERVAL", Kind::Interval),
+    (b"IS", Kind::Is),
+    (b"JOIN", Kind::Join),
+    (b"KEY", Kind::Key),
+    (b"MAX", Kind::Max),
+    (b"MIN", Kind::Min),
+    (b"NOT", Kind::Not),
+    (b"NULL", Kind::Null),
+    (b"ON", Kind::On),
+    (b"OR", Kind::Or),
+    (b"ORDER", Kind::Order),
+    (b"PRIMARY", Kind::Primary),
+    (b"SELECT", Kind::Select),
+    (b"SUM", Kind::Sum),
+    (b"TABLE", Kind::Table),
+    (b"VARCHAR", Kind::Varchar),
+    (b"WHERE", Kind::Where),
 ];
 
-/// The words of the table are the reserved words, each once and in order.
+/// The reserved words with their kinds, each once and in order.
 #[tactic(auto, unfolding(crate::specs::Reserved::reserved_words))]
-pub fn reserved_words_law()
-    ensures { map (λ r. r.0.now) RESERVED ≡ reserved_words }
-{}
+fn reserved() -> &'static [(&'static [u8], Kind)]
+    ensures { map (λ r. (r.0.now, r.1)) result.now ≡ reserved_words }
+{
+    &RESERVED
+}
 
 fn same_word(a: &[u8], b: &[u8]) -> bool
     ensures { result ≡ str_eq_ignore_ascii_case a.now b.now }
@@ -158,7 +160,7 @@ fn lookup(mut table: &[(&[u8], Kind)], word: &[u8]) -> Kind
 pub fn word_kind(word: &[u8]) -> Kind
     ensures { result ≡ spec.word_kind word.now }
 {
-    lookup(&RESERVED, word)
+    lookup(reserved(), word)
 }
 
 /// Whether two kinds are one.
