@@ -1,2 +1,3 @@
 pub mod DateFacts
+pub mod Computing
 mod Examples

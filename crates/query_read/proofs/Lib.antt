@@ -8,3 +8,4 @@ mod Levels
 mod Lenient
 mod LenientQueries
 mod QueryLaws
+mod Examples

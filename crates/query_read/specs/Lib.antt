@@ -9,3 +9,4 @@ pub mod Clauses
 pub mod ExpressionParsers
 pub mod ClauseParsers
 pub mod QueryText
+pub mod Examples

@@ -12,6 +12,7 @@ mod expecting;
 mod expr;
 mod fault;
 mod grouping;
+pub mod laws;
 mod literals;
 mod marking;
 mod nodes;
