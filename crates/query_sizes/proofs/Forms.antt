@@ -13,8 +13,8 @@ use Rattle.query_types.specs.declared.kinds.Role.{Role}
 use Rattle.query_types.specs.declared.kinds.Role.TheVariants.{Side, Alone}
 use Rattle.query_types.specs.declared.kinds.Kind.TheVariants.{Number, Date, Text, Truth}
 use Rattle.query_types.specs.declared.scope.Level.{Level}
-use Rattle.query_types.specs.declared.typed.AggregateKind.TheVariants.{Count}
-use Rattle.query_types.specs.declared.typed.TypedExpr.TheVariants as e
+use Rattle.typed_trees.specs.declared.typed.AggregateKind.TheVariants.{Count}
+use Rattle.typed_trees.specs.declared.typed.TypedExpr.TheVariants as e
 use Rattle.query_types.specs.declared.typing.Typed.{Typed}
 use Rattle.query_types.specs.Kinds.{kind_of, family_of, role_in, makes}
 use Rattle.query_types.specs.Names.{Scope, inside, column}

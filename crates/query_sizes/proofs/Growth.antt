@@ -1,7 +1,7 @@
 -- What a step of typing makes at most, and what it adds to the aggregates.
 use Rattle.std.proofs.Common.{◌≡◌, ℕ, ◌+◌, ◌*◌, ◌≤◌, Bool, true, false, List, [], ◌∷◌, ◌++◌, length, length-append, Ok, Err, refl, sym, ap, ◌∙◌, arith}
 use Rattle.query_types.specs.declared.refusal.TypeKind.{TypeKind}
-use Rattle.query_types.specs.declared.typed.Aggregate.{Aggregate}
+use Rattle.typed_trees.specs.declared.typed.Aggregate.{Aggregate}
 use Rattle.query_types.specs.Outcomes.{Outcome, refuse, refuse_if, and_then, Collecting, ◌>>=◌, pure, lift}
 use Rattle.query_sizes.specs.Sizes.{aggregate_nodes}
 use Rattle.query_sizes.proofs.Totals.{total, total_more}

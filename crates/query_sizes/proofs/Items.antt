@@ -13,8 +13,8 @@ use Rattle.query_types.specs.declared.kinds.Role.TheVariants.{Alone}
 use Rattle.query_types.specs.declared.stars.Starred.{Starred}
 use Rattle.query_types.specs.declared.items.Shown.{Shown}
 use Rattle.query_types.specs.declared.sources.Tables.{Tables}
-use Rattle.query_types.specs.declared.typed.TypedExpr.{TypedExpr}
-use Rattle.query_types.specs.declared.typed.TypedExpr.TheVariants as e
+use Rattle.typed_trees.specs.declared.typed.TypedExpr.{TypedExpr}
+use Rattle.typed_trees.specs.declared.typed.TypedExpr.TheVariants as e
 use Rattle.query_types.specs.declared.typing.Typed.{Typed}
 use Rattle.query_types.specs.Names.{Scope, standing}
 use Rattle.query_types.specs.Expressions.{is_row, condition}

@@ -4,12 +4,12 @@ use Rattle.sql_read.specs.declared.definition.ColumnKind.{ColumnKind}
 use Rattle.query_trees.specs.declared.expr.BinaryOp.{BinaryOp}
 use Rattle.query_trees.specs.declared.expr.Polarity.{Polarity}
 use Rattle.query_trees.specs.declared.expr.Sign.{Sign}
-use Rattle.query_types.specs.declared.typed.ColumnRef.{ColumnRef}
-use Rattle.query_types.specs.declared.typed.TypedExpr.{TypedExpr}
-use Rattle.query_types.specs.declared.typed.TypedExpr.TheOpen.{TypedExpr-F}
-use Rattle.query_types.specs.declared.typed.TypedExpr.TheFolds.{fold-roll-TypedExpr}
-use Rattle.query_types.specs.declared.typed.TypedExpr.TheVariants as e
-use Rattle.query_types.specs.declared.typed.TypedExpr.TheVariants.{rolls-Number, rolls-Text, rolls-Date, rolls-Column, rolls-Aggregate, rolls-Signed, rolls-Not, rolls-Binary, rolls-Divide, rolls-Between, rolls-In}
+use Rattle.typed_trees.specs.declared.typed.ColumnRef.{ColumnRef}
+use Rattle.typed_trees.specs.declared.typed.TypedExpr.{TypedExpr}
+use Rattle.typed_trees.specs.declared.typed.TypedExpr.TheOpen.{TypedExpr-F}
+use Rattle.typed_trees.specs.declared.typed.TypedExpr.TheFolds.{fold-roll-TypedExpr}
+use Rattle.typed_trees.specs.declared.typed.TypedExpr.TheVariants as e
+use Rattle.typed_trees.specs.declared.typed.TypedExpr.TheVariants.{rolls-Number, rolls-Text, rolls-Date, rolls-Column, rolls-Aggregate, rolls-Signed, rolls-Not, rolls-Binary, rolls-Divide, rolls-Between, rolls-In}
 use Rattle.query_sizes.specs.Sizes.{form_nodes, nodes}
 use Rattle.query_sizes.proofs.Totals.{total, total-map, sum_by-total}
 

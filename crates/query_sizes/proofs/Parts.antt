@@ -1,11 +1,11 @@
 -- The parts of a condition have no more nodes than the condition.
 use Rattle.std.proofs.Common.{◌≡◌, ◌+◌, ◌≤◌, Bool, true, false, [], ◌∷◌, ◌++◌, map, None, unwrap_or, refl, ap, ◌∙◌, subst, arith}
 use Rattle.query_trees.specs.declared.expr.BinaryOp.{BinaryOp}
-use Rattle.query_types.specs.declared.typed.TypedExpr.{TypedExpr, roll-TypedExpr}
-use Rattle.query_types.specs.declared.typed.TypedExpr.TheOpen.{TypedExpr-F}
-use Rattle.query_types.specs.declared.typed.TypedExpr.TheFolds.{map-TypedExpr, ind-TypedExpr, para-roll-TypedExpr}
-use Rattle.query_types.specs.declared.typed.TypedExpr.TheVariants as e
-use Rattle.query_types.specs.declared.typed.TypedExpr.TheVariants.{rolls-Binary}
+use Rattle.typed_trees.specs.declared.typed.TypedExpr.{TypedExpr, roll-TypedExpr}
+use Rattle.typed_trees.specs.declared.typed.TypedExpr.TheOpen.{TypedExpr-F}
+use Rattle.typed_trees.specs.declared.typed.TypedExpr.TheFolds.{map-TypedExpr, ind-TypedExpr, para-roll-TypedExpr}
+use Rattle.typed_trees.specs.declared.typed.TypedExpr.TheVariants as e
+use Rattle.typed_trees.specs.declared.typed.TypedExpr.TheVariants.{rolls-Binary}
 use Rattle.query_types.specs.Conjuncts.{Parts, form_parts, joined_parts, parts, is_and}
 use Rattle.query_types.proofs.Parts.{and-parts, binary-alone}
 use Rattle.query_sizes.specs.Sizes.{nodes}

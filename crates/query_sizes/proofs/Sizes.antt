@@ -6,9 +6,9 @@ use Rattle.query_read.specs.Asked.{all}
 use Rattle.query_read.specs.QueryText.{query_tokens}
 use Rattle.query_types.specs.declared.items.Shown.{Shown}
 use Rattle.query_types.specs.declared.sources.Tables.{Tables}
-use Rattle.query_types.specs.declared.typed.Aggregate.{Aggregate}
-use Rattle.query_types.specs.declared.typed.TypedExpr.{TypedExpr}
-use Rattle.query_types.specs.declared.typed.TypedQuery.{TypedQuery}
+use Rattle.typed_trees.specs.declared.typed.Aggregate.{Aggregate}
+use Rattle.typed_trees.specs.declared.typed.TypedExpr.{TypedExpr}
+use Rattle.typed_trees.specs.declared.typed.TypedQuery.{TypedQuery}
 use Rattle.query_types.specs.Names.{Scope, on_rows}
 use Rattle.query_types.specs.Grouping.{groups_of, is_grouped}
 use Rattle.query_types.specs.Items.{shown_of}

@@ -5,12 +5,12 @@ use Rattle.sql_read.specs.declared.definition.TableDef.{TableDef}
 use Rattle.sql_read.specs.Lexis.{Bytes}
 use Rattle.query_trees.specs.declared.query.Query.{Query}
 use Rattle.query_read.specs.QueryText.{IsQuery}
-use Rattle.query_types.specs.declared.typed.TypedExpr.{TypedExpr}
-use Rattle.query_types.specs.declared.typed.TypedExpr.TheOpen.{TypedExpr-F}
-use Rattle.query_types.specs.declared.typed.TypedExpr.TheFolds.{fold-TypedExpr}
-use Rattle.query_types.specs.declared.typed.Aggregate.{Aggregate}
-use Rattle.query_types.specs.declared.typed.PlanSource.{PlanSource}
-use Rattle.query_types.specs.declared.typed.TypedQuery.{TypedQuery}
+use Rattle.typed_trees.specs.declared.typed.TypedExpr.{TypedExpr}
+use Rattle.typed_trees.specs.declared.typed.TypedExpr.TheOpen.{TypedExpr-F}
+use Rattle.typed_trees.specs.declared.typed.TypedExpr.TheFolds.{fold-TypedExpr}
+use Rattle.typed_trees.specs.declared.typed.Aggregate.{Aggregate}
+use Rattle.typed_trees.specs.declared.typed.PlanSource.{PlanSource}
+use Rattle.typed_trees.specs.declared.typed.TypedQuery.{TypedQuery}
 use Rattle.query_types.specs.Typing.{typed_query}
 
 -- An operator, a literal, a column and an aggregate are a node each. A divisor is a literal; BETWEEN, IN, NOT and a sign are operators.

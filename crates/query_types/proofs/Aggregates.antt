@@ -1,11 +1,11 @@
 -- Whether an aggregate is written in a list's elements.
 use Rattle.std.proofs.Common.{◌≡◌, ℕ, Bool, ◌||◌, List, [], ◌∷◌, map, refl, sym, ap, ◌∙◌}
 use Rattle.std.specs.List.{list_any}
-use Rattle.query_read.specs.declared.tree.Expr.{Expr, Expr-F, fold_out-Expr}
-use Rattle.query_read.specs.declared.tree.Form.{Form, Form-F, fold-Form, fold-roll-Form}
-use Rattle.query_read.specs.declared.tree.Form.TheVariants as f
-use Rattle.query_read.specs.declared.tree.Form.TheVariants.{rolls-In}
-use Rattle.query_read.specs.declared.tree.Polarity.{Polarity}
+use Rattle.query_trees.specs.declared.expr.Expr.{Expr, fold_out-Expr}
+use Rattle.query_trees.specs.declared.expr.Form.{Form, Form-F, fold-Form, fold-roll-Form}
+use Rattle.query_trees.specs.declared.expr.Form.TheVariants as f
+use Rattle.query_trees.specs.declared.expr.Form.TheVariants.{rolls-In}
+use Rattle.query_trees.specs.declared.expr.Polarity.{Polarity}
 use Rattle.query_types.specs.Expressions.{form_has_aggregate, has_aggregate}
 
 any-map : (g : Expr → Bool) (ys : List Expr) → list_any (λ y. y) (map g ys) ≡ list_any g ys

@@ -3,7 +3,6 @@ use Rattle.std.proofs.Common.{◌≡◌, ℕ, zero, suc, ◌≤◌, List, [], �
 use Rattle.std.specs.Prelude.{All, flat_map}
 use Rattle.std.proofs.lemmas.List.Elements.{All-nil, All-cons}
 use Rattle.sql_read.specs.declared.definition.TableDef.{TableDef}
-use Rattle.sql_read.specs.declared.definition.ColumnDef.{ColumnDef}
 use Rattle.sql_types.specs.declared.refusal.SchemaKind.TheVariants.{TooManyTables, TooManyColumns}
 use Rattle.sql_types.specs.declared.finding.Finding.{Finding}
 use Rattle.sql_types.specs.Findings.{found}

@@ -1,11 +1,11 @@
 -- The parts of a condition, by its form.
-use Rattle.std.proofs.Common.{◌≡◌, ℕ, Bool, true, false, List, [], ◌∷◌, ◌++◌, Some, None, unwrap_or, refl, sym, ap, ◌∙◌, subst, if◌then◌else◌}
-use Rattle.query_read.specs.declared.tree.BinaryOp.{BinaryOp}
-use Rattle.query_types.specs.declared.typed.TypedExpr.{TypedExpr, out-TypedExpr, roll-TypedExpr, roll-out-TypedExpr}
-use Rattle.query_types.specs.declared.typed.TypedExpr.TheOpen.{TypedExpr-F}
-use Rattle.query_types.specs.declared.typed.TypedExpr.TheFolds.{para-roll-TypedExpr}
-use Rattle.query_types.specs.declared.typed.TypedExpr.TheVariants as e
-use Rattle.query_types.specs.declared.typed.TypedExpr.TheVariants.{rolls-Binary}
+use Rattle.std.proofs.Common.{◌≡◌, true, false, [], ◌∷◌, ◌++◌, Some, None, unwrap_or, sym, ap, ◌∙◌, subst, if◌then◌else◌}
+use Rattle.query_trees.specs.declared.expr.BinaryOp.{BinaryOp}
+use Rattle.typed_trees.specs.declared.typed.TypedExpr.{TypedExpr, out-TypedExpr, roll-TypedExpr, roll-out-TypedExpr}
+use Rattle.typed_trees.specs.declared.typed.TypedExpr.TheOpen.{TypedExpr-F}
+use Rattle.typed_trees.specs.declared.typed.TypedExpr.TheFolds.{para-roll-TypedExpr}
+use Rattle.typed_trees.specs.declared.typed.TypedExpr.TheVariants as e
+use Rattle.typed_trees.specs.declared.typed.TypedExpr.TheVariants.{rolls-Binary}
 use Rattle.query_types.specs.Conjuncts.{Parts, form_parts, joined_parts, joined_by, parts, is_and}
 
 binary-parts : (o : BinaryOp) (x y : TypedExpr) → joined_parts (e.Binary o x y) ≡ joined_by o (parts x) (parts y)

@@ -1,15 +1,15 @@
 -- The typing of each form, by the typing of its operands.
-use Rattle.std.proofs.Common.{◌≡◌, ℕ, ℤ, List, map, refl, sym, ap, ◌∙◌}
-use Rattle.query_read.specs.declared.tree.Expr.{Expr, out-Expr, fold_out-Expr}
-use Rattle.query_read.specs.declared.tree.Form.{Form, Form-F, fold-Form, fold-roll-Form}
-use Rattle.query_read.specs.declared.tree.Form.TheVariants as f
-use Rattle.query_read.specs.declared.tree.Form.TheVariants.{rolls-Number, rolls-Text, rolls-Date, rolls-Column, rolls-CountAll, rolls-Aggregate, rolls-Enclosed, rolls-Signed, rolls-Not, rolls-Binary, rolls-Divide, rolls-Between, rolls-In}
-use Rattle.query_read.specs.declared.tree.AggregateKind.{AggregateKind}
-use Rattle.query_read.specs.declared.tree.BinaryOp.{BinaryOp}
-use Rattle.query_read.specs.declared.tree.ColumnName.{ColumnName}
-use Rattle.query_read.specs.declared.tree.Divisor.{Divisor}
-use Rattle.query_read.specs.declared.tree.Polarity.{Polarity}
-use Rattle.query_read.specs.declared.tree.Sign.{Sign}
+use Rattle.std.proofs.Common.{◌≡◌, ℕ, ℤ, List, map, sym, ap, ◌∙◌}
+use Rattle.query_trees.specs.declared.expr.Expr.{Expr, fold_out-Expr}
+use Rattle.query_trees.specs.declared.expr.Form.{Form, Form-F, fold-Form, fold-roll-Form}
+use Rattle.query_trees.specs.declared.expr.Form.TheVariants as f
+use Rattle.query_trees.specs.declared.expr.Form.TheVariants.{rolls-Number, rolls-Text, rolls-Date, rolls-Column, rolls-CountAll, rolls-Aggregate, rolls-Enclosed, rolls-Signed, rolls-Not, rolls-Binary, rolls-Divide, rolls-Between, rolls-In}
+use Rattle.query_trees.specs.declared.expr.AggregateKind.{AggregateKind}
+use Rattle.query_trees.specs.declared.expr.BinaryOp.{BinaryOp}
+use Rattle.query_trees.specs.declared.expr.ColumnName.{ColumnName}
+use Rattle.query_trees.specs.declared.expr.Divisor.{Divisor}
+use Rattle.query_trees.specs.declared.expr.Polarity.{Polarity}
+use Rattle.query_trees.specs.declared.expr.Sign.{Sign}
 use Rattle.query_types.specs.Expressions.{Typer, form_typer, expr_typer, typer}
 
 abbrev pub form_typed : Form → ℕ → Typer

@@ -1,23 +1,23 @@
 -- The typing of expressions: operands before operators, from left to right, up to the first refusal.
 -- After SQL-92 (ISO/IEC 9075:1992), 6.4, 6.5, 6.12, 8.2 to 8.4 and 8.12.
-use Rattle.std.specs.Prelude.{ℕ, ◌==◌, Bool, true, false, not, ◌&&◌, ◌||◌, List, [], ◌∷◌, ◌++◌, length, map, Option, Some, None, Ok, Err}
+use Rattle.std.specs.Prelude.{ℕ, ◌==◌, Bool, true, false, not, ◌&&◌, ◌||◌, List, [], ◌∷◌, ◌++◌, length, map, Option, Some, None, Ok}
 use Rattle.std.specs.List.{list_any, list_all}
-use Rattle.query_read.specs.declared.tree.Expr.{Expr, Expr-F, fold-Expr}
-use Rattle.query_read.specs.declared.tree.Form.{Form-F}
-use Rattle.query_read.specs.declared.tree.BinaryOp.{BinaryOp}
-use Rattle.query_read.specs.declared.tree.Polarity.{Polarity}
-use Rattle.query_read.specs.declared.tree.Sign.{Sign}
-use Rattle.query_read.specs.declared.tree.Sign.TheVariants.{Plus}
-use Rattle.query_read.specs.declared.tree.Divisor.{Divisor}
-use Rattle.query_read.specs.declared.tree.ColumnName.{ColumnName}
-use Rattle.query_read.specs.declared.tree.AggregateKind.{AggregateKind as Written}
-use Rattle.query_read.specs.declared.tree.AggregateKind.TheVariants as written
+use Rattle.query_trees.specs.declared.expr.Expr.{Expr, Expr-F, fold-Expr}
+use Rattle.query_trees.specs.declared.expr.Form.{Form-F}
+use Rattle.query_trees.specs.declared.expr.BinaryOp.{BinaryOp}
+use Rattle.query_trees.specs.declared.expr.Polarity.{Polarity}
+use Rattle.query_trees.specs.declared.expr.Sign.{Sign}
+use Rattle.query_trees.specs.declared.expr.Sign.TheVariants.{Plus}
+use Rattle.query_trees.specs.declared.expr.Divisor.{Divisor}
+use Rattle.query_trees.specs.declared.expr.ColumnName.{ColumnName}
+use Rattle.query_trees.specs.declared.expr.AggregateKind.{AggregateKind as Written}
+use Rattle.query_trees.specs.declared.expr.AggregateKind.TheVariants as written
 use Rattle.query_types.specs.declared.refusal.TypeKind.TheVariants.{TypesDiffer, NestedAggregate, ZeroDivisor}
-use Rattle.query_types.specs.declared.typed.TypedExpr.{TypedExpr}
-use Rattle.query_types.specs.declared.typed.TypedExpr.TheVariants as e
-use Rattle.query_types.specs.declared.typed.AggregateKind.{AggregateKind}
-use Rattle.query_types.specs.declared.typed.AggregateKind.TheVariants.{Count, Sum, Min, Max, Avg}
-use Rattle.query_types.specs.declared.typed.Aggregate.{Aggregate}
+use Rattle.typed_trees.specs.declared.typed.TypedExpr.{TypedExpr}
+use Rattle.typed_trees.specs.declared.typed.TypedExpr.TheVariants as e
+use Rattle.typed_trees.specs.declared.typed.AggregateKind.{AggregateKind}
+use Rattle.typed_trees.specs.declared.typed.AggregateKind.TheVariants.{Count, Sum, Min, Max, Avg}
+use Rattle.typed_trees.specs.declared.typed.Aggregate.{Aggregate}
 use Rattle.query_types.specs.declared.kinds.Kind.{Kind}
 use Rattle.query_types.specs.declared.kinds.Kind.TheVariants.{Number, Date, Text, Truth}
 use Rattle.query_types.specs.declared.kinds.Role.{Role}

@@ -3,13 +3,13 @@ use Rattle.std.specs.Prelude.{ℕ, suc, nat_le, nat_lt, Bool, true, false, not, 
 use Rattle.std.specs.List.{list_any, list_all}
 use Rattle.sql_read.specs.declared.definition.ColumnDef.{ColumnDef}
 use Rattle.sql_read.specs.declared.definition.TableDef.{TableDef}
-use Rattle.query_read.specs.declared.tree.ColumnName.{ColumnName}
-use Rattle.query_read.specs.declared.tree.SelectItem.{SelectItem}
-use Rattle.query_read.specs.declared.tree.SelectList.{SelectList}
-use Rattle.query_read.specs.declared.tree.SelectList.TheVariants as select
-use Rattle.query_read.specs.declared.tree.Query.{Query}
+use Rattle.query_trees.specs.declared.expr.ColumnName.{ColumnName}
+use Rattle.query_trees.specs.declared.clauses.SelectItem.{SelectItem}
+use Rattle.query_trees.specs.declared.clauses.SelectList.{SelectList}
+use Rattle.query_trees.specs.declared.clauses.SelectList.TheVariants as select
+use Rattle.query_trees.specs.declared.query.Query.{Query}
 use Rattle.query_types.specs.declared.refusal.TypeKind.TheVariants.{UnknownColumn, NotColumns, TooManyKeys}
-use Rattle.query_types.specs.declared.typed.ColumnRef.{ColumnRef}
+use Rattle.typed_trees.specs.declared.typed.ColumnRef.{ColumnRef}
 use Rattle.query_types.specs.declared.scope.Called.{Called}
 use Rattle.query_types.specs.declared.stars.Starred.{Starred}
 use Rattle.query_types.specs.Names.{columns_of, column_ref, resolved}

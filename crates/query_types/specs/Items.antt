@@ -1,13 +1,13 @@
 -- The select list: its values and their output names. After SQL-92 (ISO/IEC 9075:1992), 7.9 <query specification>.
-use Rattle.std.specs.Prelude.{◌≡◌, ℕ, ◌≤◌, ◌+◌, nat_le, Bool, true, false, not, List, [], ◌∷◌, ◌++◌, length, decimal, Option, Some, None, Ok}
-use Rattle.query_read.specs.declared.tree.Alias.{Alias}
-use Rattle.query_read.specs.declared.tree.ColumnName.{ColumnName}
-use Rattle.query_read.specs.declared.tree.SelectItem.{SelectItem}
-use Rattle.query_read.specs.declared.tree.SelectList.{SelectList}
-use Rattle.query_read.specs.declared.tree.SelectList.TheVariants as select
+use Rattle.std.specs.Prelude.{◌≡◌, ℕ, ◌≤◌, ◌+◌, nat_le, Bool, List, [], ◌∷◌, ◌++◌, length, decimal, Option, Some, None, Ok}
+use Rattle.query_trees.specs.declared.clauses.Alias.{Alias}
+use Rattle.query_trees.specs.declared.expr.ColumnName.{ColumnName}
+use Rattle.query_trees.specs.declared.clauses.SelectItem.{SelectItem}
+use Rattle.query_trees.specs.declared.clauses.SelectList.{SelectList}
+use Rattle.query_trees.specs.declared.clauses.SelectList.TheVariants as select
 use Rattle.query_types.specs.declared.refusal.TypeKind.TheVariants.{TypesDiffer, TooManyItems}
-use Rattle.query_types.specs.declared.typed.TypedExpr.{TypedExpr}
-use Rattle.query_types.specs.declared.typed.TypedExpr.TheVariants as e
+use Rattle.typed_trees.specs.declared.typed.TypedExpr.{TypedExpr}
+use Rattle.typed_trees.specs.declared.typed.TypedExpr.TheVariants as e
 use Rattle.query_types.specs.declared.kinds.Role.TheVariants.{Alone}
 use Rattle.query_types.specs.declared.scope.Found.{Found}
 use Rattle.query_types.specs.declared.typing.Typed.{Typed}

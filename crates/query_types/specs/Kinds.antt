@@ -3,10 +3,10 @@
 use Rattle.std.specs.Prelude.{Bool, true, false, not, ◌&&◌}
 use Rattle.sql_read.specs.declared.definition.ColumnKind.{ColumnKind}
 use Rattle.sql_read.specs.declared.definition.ColumnKind.TheVariants as column
-use Rattle.query_read.specs.declared.tree.BinaryOp.{BinaryOp}
-use Rattle.query_read.specs.declared.tree.BinaryOp.TheVariants as op
-use Rattle.query_read.specs.declared.tree.AggregateKind.{AggregateKind}
-use Rattle.query_read.specs.declared.tree.AggregateKind.TheVariants as aggregate
+use Rattle.query_trees.specs.declared.expr.BinaryOp.{BinaryOp}
+use Rattle.query_trees.specs.declared.expr.BinaryOp.TheVariants as op
+use Rattle.query_trees.specs.declared.expr.AggregateKind.{AggregateKind}
+use Rattle.query_trees.specs.declared.expr.AggregateKind.TheVariants as aggregate
 use Rattle.query_types.specs.declared.kinds.Kind.{Kind}
 use Rattle.query_types.specs.declared.kinds.Kind.TheVariants.{Number, Date, Text, Truth}
 use Rattle.query_types.specs.declared.kinds.Family.{Family}

@@ -1,13 +1,13 @@
 -- Which column of FROM a name means. After SQL-92 (ISO/IEC 9075:1992), 6.3 <table reference> and 6.4 <column reference>.
-use Rattle.std.specs.Prelude.{◌≡◌, ℕ, suc, ◌≤◌, ◌+◌, ◌==◌, ◌&&◌, Bool, true, false, not, if◌then◌else◌, List, [], ◌∷◌, ◌++◌, length, All, slice_get, option_to_list, Option, Some, None, Result, Ok, Err}
+use Rattle.std.specs.Prelude.{ℕ, suc, ◌≤◌, ◌==◌, ◌&&◌, Bool, true, not, if◌then◌else◌, List, [], ◌∷◌, ◌++◌, length, All, slice_get, option_to_list, Option, Some, None, Ok}
 use Rattle.std.specs.List.{list_any}
 use Rattle.std.specs.Str.{bytes_eq}
 use Rattle.sql_read.specs.declared.definition.ColumnDef.{ColumnDef}
 use Rattle.sql_read.specs.declared.definition.ColumnKind.{ColumnKind}
 use Rattle.sql_read.specs.declared.definition.TableDef.{TableDef}
 use Rattle.sql_types.specs.Catalog.{is_column_named}
-use Rattle.query_read.specs.declared.tree.ColumnName.{ColumnName}
-use Rattle.query_types.specs.declared.typed.ColumnRef.{ColumnRef}
+use Rattle.query_trees.specs.declared.expr.ColumnName.{ColumnName}
+use Rattle.typed_trees.specs.declared.typed.ColumnRef.{ColumnRef}
 use Rattle.query_types.specs.declared.refusal.TypeKind.TheVariants.{UnknownTable, UnknownColumn, Ambiguous, NotGrouped}
 use Rattle.query_types.specs.declared.scope.Called.{Called}
 use Rattle.query_types.specs.declared.scope.Found.{Found}

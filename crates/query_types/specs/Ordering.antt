@@ -1,16 +1,16 @@
 -- The keys of ORDER BY. After SQL-92 (ISO/IEC 9075:1992), 13.1 <order by clause>.
 use Rattle.std.specs.Prelude.{ℕ, suc, ◌-◌, nat_le, nat_lt, ◌&&◌, Bool, true, false, not, if◌then◌else◌, List, [], ◌∷◌, ◌++◌, length, Option, Some, None, Ok}
 use Rattle.std.specs.Str.{bytes_eq}
-use Rattle.query_read.specs.declared.tree.ColumnName.{ColumnName}
-use Rattle.query_read.specs.declared.tree.Direction.{Direction}
-use Rattle.query_read.specs.declared.tree.Direction.TheVariants.{Ascending, Descending}
-use Rattle.query_read.specs.declared.tree.SortBy.{SortBy}
-use Rattle.query_read.specs.declared.tree.SortBy.TheVariants as by
-use Rattle.query_read.specs.declared.tree.SortKey.{SortKey}
+use Rattle.query_trees.specs.declared.expr.ColumnName.{ColumnName}
+use Rattle.query_trees.specs.declared.clauses.Direction.{Direction}
+use Rattle.query_trees.specs.declared.clauses.Direction.TheVariants.{Ascending, Descending}
+use Rattle.query_trees.specs.declared.clauses.SortBy.{SortBy}
+use Rattle.query_trees.specs.declared.clauses.SortBy.TheVariants as by
+use Rattle.query_trees.specs.declared.clauses.SortKey.{SortKey}
 use Rattle.query_types.specs.declared.refusal.TypeKind.TheVariants.{UnknownColumn, Ambiguous, TooManyKeys}
-use Rattle.query_types.specs.declared.typed.KeyRef.{KeyRef}
-use Rattle.query_types.specs.declared.typed.KeyRef.TheVariants.{Item, Column}
-use Rattle.query_types.specs.declared.typed.OrderKey.{OrderKey}
+use Rattle.typed_trees.specs.declared.typed.KeyRef.{KeyRef}
+use Rattle.typed_trees.specs.declared.typed.KeyRef.TheVariants.{Item, Column}
+use Rattle.typed_trees.specs.declared.typed.OrderKey.{OrderKey}
 use Rattle.query_types.specs.Names.{Scope, column}
 use Rattle.query_types.specs.Outcomes.{Outcome, refuse, refuse_if, and_then}
 

@@ -1,9 +1,9 @@
 -- What a step of typing comes to: a value, or the first refusal. A step inside an expression also has the aggregates that were met before it.
-use Rattle.std.specs.Prelude.{◌≡◌, ◌≢◌, ℕ, Bool, true, false, if◌then◌else◌, List, Option, Some, None, Result, Ok, Err}
+use Rattle.std.specs.Prelude.{◌≡◌, ◌≢◌, ℕ, Bool, true, false, List, Result, Ok, Err}
 use Rattle.query_types.specs.declared.refusal.TypeKind.{TypeKind}
 use Rattle.query_types.specs.declared.refusal.TypeRefusal.{TypeRefusal}
 use Rattle.query_types.specs.declared.refusal.TypeRefusal.TheVariants.{NoMemory, Bad}
-use Rattle.query_types.specs.declared.typed.Aggregate.{Aggregate}
+use Rattle.typed_trees.specs.declared.typed.Aggregate.{Aggregate}
 
 abbrev pub Outcome : Type 0 → Type 0
 Outcome A = Result A TypeRefusal

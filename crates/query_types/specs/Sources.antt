@@ -1,20 +1,20 @@
 -- The tables of FROM, from left to right. After SQL-92 (ISO/IEC 9075:1992), 6.3 <table reference>, 7.4 <from clause> and 7.5 <joined table>.
-use Rattle.std.specs.Prelude.{ℕ, ◌+◌, ◌==◌, nat_le, Bool, true, false, not, if◌then◌else◌, List, [], ◌∷◌, ◌++◌, length, slice_get, Option, Some, None, Ok}
+use Rattle.std.specs.Prelude.{ℕ, ◌==◌, nat_le, Bool, not, if◌then◌else◌, List, [], ◌∷◌, ◌++◌, length, slice_get, Option, Some, None, Ok}
 use Rattle.std.specs.List.{list_any, position_from, range_with_len}
 use Rattle.std.specs.Str.{bytes_eq}
 use Rattle.sql_read.specs.declared.definition.KeyDef.{KeyDef}
 use Rattle.sql_read.specs.declared.definition.TableDef.{TableDef}
 use Rattle.sql_types.specs.Catalog.{is_table_named, is_key_of}
-use Rattle.query_read.specs.declared.tree.Alias.{Alias}
-use Rattle.query_read.specs.declared.tree.ColumnName.{ColumnName}
-use Rattle.query_read.specs.declared.tree.TableName.{TableName}
-use Rattle.query_read.specs.declared.tree.Join.{Join}
-use Rattle.query_read.specs.declared.tree.JoinKind.{JoinKind}
-use Rattle.query_read.specs.declared.tree.JoinKind.TheVariants as join
-use Rattle.query_read.specs.declared.tree.Source.{Source}
+use Rattle.query_trees.specs.declared.clauses.Alias.{Alias}
+use Rattle.query_trees.specs.declared.expr.ColumnName.{ColumnName}
+use Rattle.query_trees.specs.declared.clauses.TableName.{TableName}
+use Rattle.query_trees.specs.declared.clauses.Join.{Join}
+use Rattle.query_trees.specs.declared.clauses.JoinKind.{JoinKind}
+use Rattle.query_trees.specs.declared.clauses.JoinKind.TheVariants as join
+use Rattle.query_trees.specs.declared.clauses.Source.{Source}
 use Rattle.query_types.specs.declared.refusal.TypeKind.TheVariants.{UnknownTable, NameTwice, TypesDiffer, NotAKey, TooManyTables}
-use Rattle.query_types.specs.declared.typed.ColumnRef.{ColumnRef}
-use Rattle.query_types.specs.declared.typed.PlanSource.{PlanSource}
+use Rattle.typed_trees.specs.declared.typed.ColumnRef.{ColumnRef}
+use Rattle.typed_trees.specs.declared.typed.PlanSource.{PlanSource}
 use Rattle.query_types.specs.declared.scope.Called.{Called}
 use Rattle.query_types.specs.declared.scope.Found.{Found}
 use Rattle.query_types.specs.declared.sources.Tables.{Tables}

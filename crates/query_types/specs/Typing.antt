@@ -1,14 +1,14 @@
 -- The typing of a query: FROM, WHERE, GROUP BY, the items, HAVING and ORDER BY, up to the first refusal.
 -- After SQL-92 (ISO/IEC 9075:1992), 7.3 to 7.9 <query specification> and 13.1 <order by clause>.
-use Rattle.std.specs.Prelude.{ℕ, Bool, true, false, List, [], Option, Some, None, Result, Ok}
+use Rattle.std.specs.Prelude.{Bool, true, false, List, [], Option, Some, None, Ok}
 use Rattle.sql_read.specs.declared.definition.TableDef.{TableDef}
-use Rattle.query_read.specs.declared.tree.Expr.{Expr}
-use Rattle.query_read.specs.declared.tree.Query.{Query}
-use Rattle.query_types.specs.declared.typed.TypedExpr.{TypedExpr}
-use Rattle.query_types.specs.declared.typed.Aggregate.{Aggregate}
-use Rattle.query_types.specs.declared.typed.ColumnRef.{ColumnRef}
-use Rattle.query_types.specs.declared.typed.OrderKey.{OrderKey}
-use Rattle.query_types.specs.declared.typed.TypedQuery.{TypedQuery}
+use Rattle.query_trees.specs.declared.expr.Expr.{Expr}
+use Rattle.query_trees.specs.declared.query.Query.{Query}
+use Rattle.typed_trees.specs.declared.typed.TypedExpr.{TypedExpr}
+use Rattle.typed_trees.specs.declared.typed.Aggregate.{Aggregate}
+use Rattle.typed_trees.specs.declared.typed.ColumnRef.{ColumnRef}
+use Rattle.typed_trees.specs.declared.typed.OrderKey.{OrderKey}
+use Rattle.typed_trees.specs.declared.typed.TypedQuery.{TypedQuery}
 use Rattle.query_types.specs.declared.scope.Called.{Called}
 use Rattle.query_types.specs.declared.sources.Tables.{Tables}
 use Rattle.query_types.specs.declared.items.Shown.{Shown}
@@ -20,7 +20,7 @@ use Rattle.query_types.specs.Sources.{tables_of}
 use Rattle.query_types.specs.Grouping.{groups_of, is_grouped}
 use Rattle.query_types.specs.Items.{shown_of}
 use Rattle.query_types.specs.Ordering.{keys}
-use Rattle.query_types.specs.Outcomes.{Outcome, and_then, Collecting, ◌>>=◌, pure, lift}
+use Rattle.query_types.specs.Outcomes.{Outcome, and_then, Collecting, ◌>>=◌, pure}
 
 -- the condition of WHERE, on rows: the parts that AND joins
 abbrev pub filter : Scope → Option Expr → Outcome (List TypedExpr)

@@ -5,9 +5,9 @@ ghost use Rattle.query_types.specs.Conjuncts as spec;
 ghost use Rattle.query_types.specs.Outcomes.{Gives};
 
 use crate::refusal::TypeRefusal;
-use crate::typed::TypedExpr;
-use query_read::BinaryOp;
+use query_trees::BinaryOp;
 use sql_read::Listing;
+use typed_trees::TypedExpr;
 
 fn is_and(op: BinaryOp) -> bool
     ensures { result ≡ spec.is_and op }

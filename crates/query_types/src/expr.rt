@@ -14,11 +14,11 @@ use crate::kinds::{Kind, Role, family_of, is_truth, role_in};
 use crate::outcome::refusal;
 use crate::refusal::{TypeKind, TypeRefusal};
 use crate::scope::{Level, Scope};
-use crate::typed::{Aggregate, TypedExpr};
 use crate::typing::Typed;
-use query_read::{ColumnName, Expr, Form};
+use query_trees::{ColumnName, Expr, Form};
 use sql_read::Listing;
 use std::alloc::Global;
+use typed_trees::{Aggregate, TypedExpr};
 
 /// The same scope inside an aggregate.
 fn inside<'a>(scope: &Scope<'a>) -> Scope<'a>
@@ -63,12 +63,12 @@ pub fn expr(
     requires few { length scope.now.tables.now ≤ 8 }
     ensures { Collects (spec.typer e.now (seen scope.now) role aggregates.old) result aggregates.new }
 {
-    match &e.form {
+    match e.form.get() {
         Form::Number(n) => Ok(Typed {
             value: TypedExpr::Number(*n),
             kind: Kind::Number,
         }),
-        Form::Text(text) => literal(alloc, role, text.as_slice(), e.at),
+        Form::Text(text) => literal(alloc, role, text, e.at),
         Form::Date(day) => Ok(Typed {
             value: TypedExpr::Date(*day),
             kind: Kind::Date,
@@ -76,36 +76,36 @@ pub fn expr(
         Form::Column(c) => named(scope, c),
         Form::CountAll => counted(aggregates, scope.level, e.at),
         Form::Aggregate(of, x) => {
-            let a = expr(alloc, &inside(scope), aggregates, Role::Alone, x.get())?;
+            let a = expr(alloc, &inside(scope), aggregates, Role::Alone, x)?;
             folded(aggregates, scope.level, *of, e.at, a)
         }
-        Form::Enclosed(x) => expr(alloc, scope, aggregates, role, x.get()),
+        Form::Enclosed(x) => expr(alloc, scope, aggregates, role, x),
         Form::Signed(sign, x) => {
-            let a = expr(alloc, scope, aggregates, Role::Alone, x.get())?;
+            let a = expr(alloc, scope, aggregates, Role::Alone, x)?;
             signed(alloc, *sign, e.at, a)
         }
         Form::Not(x) => {
-            let a = expr(alloc, scope, aggregates, Role::Alone, x.get())?;
+            let a = expr(alloc, scope, aggregates, Role::Alone, x)?;
             negated(alloc, e.at, a)
         }
         Form::Binary(op, at, x, y) => {
             let side = role_in(family_of(*op));
-            let a = expr(alloc, scope, aggregates, side, x.get())?;
-            let b = expr(alloc, scope, aggregates, side, y.get())?;
+            let a = expr(alloc, scope, aggregates, side, x)?;
+            let b = expr(alloc, scope, aggregates, side, y)?;
             joined(alloc, *op, *at, a, b)
         }
         Form::Divide(at, x, by) => {
-            let a = expr(alloc, scope, aggregates, Role::Alone, x.get())?;
+            let a = expr(alloc, scope, aggregates, Role::Alone, x)?;
             divided(alloc, *at, a, *by)
         }
         Form::Between(polarity, at, x, y, z) => {
-            let a = expr(alloc, scope, aggregates, Role::Side, x.get())?;
-            let low = expr(alloc, scope, aggregates, Role::Side, y.get())?;
-            let high = expr(alloc, scope, aggregates, Role::Side, z.get())?;
+            let a = expr(alloc, scope, aggregates, Role::Side, x)?;
+            let low = expr(alloc, scope, aggregates, Role::Side, y)?;
+            let high = expr(alloc, scope, aggregates, Role::Side, z)?;
             between(alloc, *polarity, *at, a, low, high)
         }
         Form::In(polarity, at, x, ys) => {
-            let a = expr(alloc, scope, aggregates, Role::Side, x.get())?;
+            let a = expr(alloc, scope, aggregates, Role::Side, x)?;
             let ts = sides(alloc, scope, aggregates, ys.as_slice())?;
             among(alloc, *polarity, *at, a, ts)
         }
@@ -128,7 +128,7 @@ pub fn condition(
     if !is_truth(t.kind) {
         return Err(refusal(TypeKind::TypesDiffer, e.at));
     }
-    Ok(t.value)
+    Ok(t.into_value())
 }
 
 #[cycle(has_aggregate)]
@@ -149,17 +149,17 @@ fn any_aggregate(items: &[Expr]) -> bool
 pub fn has_aggregate(e: &Expr) -> bool
     ensures { result ≡ spec.has_aggregate e.now }
 {
-    match &e.form {
+    match e.form.get() {
         Form::CountAll | Form::Aggregate(..) => true,
         Form::Number(_) | Form::Text(_) | Form::Date(_) | Form::Column(_) => false,
         Form::Enclosed(x) | Form::Signed(_, x) | Form::Not(x) | Form::Divide(_, x, _) => {
-            has_aggregate(x.get())
+            has_aggregate(x)
         }
-        Form::Binary(_, _, x, y) => has_aggregate(x.get()) || has_aggregate(y.get()),
+        Form::Binary(_, _, x, y) => has_aggregate(x) || has_aggregate(y),
         Form::Between(_, _, x, y, z) => {
-            has_aggregate(x.get()) || (has_aggregate(y.get()) || has_aggregate(z.get()))
+            has_aggregate(x) || (has_aggregate(y) || has_aggregate(z))
         }
-        Form::In(_, _, x, ys) => has_aggregate(x.get()) || any_aggregate(ys.as_slice()),
+        Form::In(_, _, x, ys) => has_aggregate(x) || any_aggregate(ys.as_slice()),
     }
 }
 
@@ -168,9 +168,9 @@ pub fn has_aggregate(e: &Expr) -> bool
 pub fn column_alone(e: &Expr) -> Option<&ColumnName>
     ensures { option_copied result ≡ spec.column_alone e.now }
 {
-    match &e.form {
+    match e.form.get() {
         Form::Column(c) => Some(c),
-        Form::Enclosed(x) => column_alone(x.get()),
+        Form::Enclosed(x) => column_alone(x),
         _ => None,
     }
 }

@@ -13,26 +13,21 @@ use crate::names::column;
 use crate::outcome::refusal;
 use crate::refusal::{TypeKind, TypeRefusal};
 use crate::scope::{Level, Scope};
-use crate::typed::{Aggregate, AggregateKind, TypedExpr};
-use crate::typing::Typed;
-use query_read::{AggregateKind as Written, BinaryOp, ColumnName, Divisor, Polarity, Sign};
+use crate::typing::{Typed, boxed};
+use io_edge::Name;
+use query_trees::{AggregateKind as Written, BinaryOp, ColumnName, Divisor, Polarity, Sign};
 use sql_read::Listing;
-use sqlite_items::{Boxed, Items};
+use sqlite_items::Items;
 use std::alloc::Global;
-
-fn copied(alloc: Global, text: &[u8]) -> Result<Listing<u8>, TypeRefusal>
-    ensures { Gives (Ok text.now) result }
-{
-    Ok(Listing::from_vec(Vec::from_slice(alloc, text)?))
-}
+use typed_trees::{Aggregate, AggregateKind, TypedExpr};
 
 /// A text literal, which stands only as a side.
-pub fn literal(alloc: Global, role: Role, text: &[u8], at: u32) -> Result<Typed, TypeRefusal>
+pub fn literal(alloc: Global, role: Role, text: &Name, at: u32) -> Result<Typed, TypeRefusal>
     ensures { Gives (spec.literal role text.now at) result }
 {
     match role {
         Role::Side => {
-            let text = copied(alloc, text)?;
+            let text = text.copied(alloc)?;
             Ok(Typed {
                 value: TypedExpr::Text(text),
                 kind: Kind::Text,
@@ -63,7 +58,7 @@ pub fn signed(alloc: Global, sign: Sign, at: u32, a: Typed) -> Result<Typed, Typ
         return Err(refusal(TypeKind::TypesDiffer, at));
     }
     Ok(Typed {
-        value: TypedExpr::Signed(sign, Boxed::new(alloc, a.value)?),
+        value: TypedExpr::Signed(sign, boxed(alloc, a)?),
         kind: Kind::Number,
     })
 }
@@ -76,7 +71,7 @@ pub fn negated(alloc: Global, at: u32, a: Typed) -> Result<Typed, TypeRefusal>
         return Err(refusal(TypeKind::TypesDiffer, at));
     }
     Ok(Typed {
-        value: TypedExpr::Not(Boxed::new(alloc, a.value)?),
+        value: TypedExpr::Not(boxed(alloc, a)?),
         kind: Kind::Truth,
     })
 }
@@ -95,8 +90,8 @@ pub fn joined(
     if !takes(family, a.kind, b.kind) {
         return Err(refusal(TypeKind::TypesDiffer, at));
     }
-    let left = Boxed::new(alloc, a.value)?;
-    let right = Boxed::new(alloc, b.value)?;
+    let left = boxed(alloc, a)?;
+    let right = boxed(alloc, b)?;
     Ok(Typed {
         value: TypedExpr::Binary(op, left, right),
         kind: makes(family),
@@ -122,7 +117,7 @@ pub fn divided(alloc: Global, at: u32, a: Typed, by: Divisor) -> Result<Typed, T
     if !is_number(a.kind) {
         return Err(refusal(TypeKind::TypesDiffer, at));
     }
-    let of = Boxed::new(alloc, a.value)?;
+    let of = boxed(alloc, a)?;
     Ok(Typed {
         value: TypedExpr::Divide(of, sign_or_plus(by.sign), by.value),
         kind: Kind::Number,
@@ -143,9 +138,9 @@ pub fn between(
     if !(compare(a.kind, low.kind) && compare(a.kind, high.kind)) {
         return Err(refusal(TypeKind::TypesDiffer, at));
     }
-    let of = Boxed::new(alloc, a.value)?;
-    let low = Boxed::new(alloc, low.value)?;
-    let high = Boxed::new(alloc, high.value)?;
+    let of = boxed(alloc, a)?;
+    let low = boxed(alloc, low)?;
+    let high = boxed(alloc, high)?;
     Ok(Typed {
         value: TypedExpr::Between(polarity, of, low, high),
         kind: Kind::Truth,
@@ -163,7 +158,7 @@ fn values(alloc: Global, ts: Listing<Typed>) -> Result<Items<TypedExpr>, TypeRef
 {
     let mut values = Items::new(alloc);
     for t in ts.into_vec() {
-        values.push(t.value)?;
+        values.push(t.into_value())?;
     }
     Ok(values)
 }
@@ -181,7 +176,7 @@ pub fn among(
     if !all_compare(a.kind, ts.as_slice()) {
         return Err(refusal(TypeKind::TypesDiffer, at));
     }
-    let of = Boxed::new(alloc, a.value)?;
+    let of = boxed(alloc, a)?;
     let values = values(alloc, ts)?;
     Ok(Typed {
         value: TypedExpr::In(polarity, of, values),
@@ -270,7 +265,7 @@ pub fn folded(
     let kind = kind_folded(of, a.kind);
     let folding = Aggregate {
         kind: aggregate_kind(of),
-        argument: Some(a.value),
+        argument: Some(a.into_value()),
     };
     met(aggregates, kind, folding)
 }

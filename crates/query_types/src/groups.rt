@@ -13,10 +13,10 @@ use crate::outcome::refusal;
 use crate::refusal::{TypeKind, TypeRefusal};
 use crate::scope::Called;
 use crate::stars::{Starred, every_column};
-use crate::typed::ColumnRef;
-use query_read::{ColumnName, Query, SelectItem, SelectList};
+use query_trees::{ColumnName, Query, SelectItem, SelectList};
 use sql_read::{Listing, TableDef};
 use std::alloc::Global;
+use typed_trees::ColumnRef;
 
 /// The columns of GROUP BY.
 fn grouped_by(

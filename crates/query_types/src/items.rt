@@ -13,18 +13,33 @@ use crate::outcome::refusal;
 use crate::refusal::{TypeKind, TypeRefusal};
 use crate::scope::{Found, Scope};
 use crate::stars::{Starred, every_column};
-use crate::typed::{Aggregate, TypedExpr};
 use crate::typing::Typed;
 use io_edge::Name;
-use query_read::{Alias, ColumnName, SelectItem, SelectList};
+use query_trees::{Alias, ColumnName, SelectItem, SelectList};
 use sql_read::Listing;
 use std::alloc::Global;
+use typed_trees::{Aggregate, TypedExpr};
 
 /// The items so far, and their output names.
-#[derive(Drop)]
 pub struct Shown {
     pub items: Listing<TypedExpr>,
     pub names: Listing<Name>,
+}
+
+impl Drop for Shown {
+    fn drop(self) {
+        let Shown { items: _, names: _ } = self;
+    }
+}
+
+impl Shown {
+    /// The items and the names, to be taken apart.
+    pub fn into_parts(self) -> (Listing<TypedExpr>, Listing<Name>)
+        ensures { result ≡ (self.items, self.names) }
+    {
+        let Shown { items, names } = self;
+        (items, names)
+    }
 }
 
 fn nothing_shown(alloc: Global) -> Shown
@@ -42,10 +57,7 @@ fn with_item(shown: Shown, value: TypedExpr, name: Name) -> Result<Shown, TypeRe
     ensures given { Gives (Ok (spec.with_item shown value name)) result }
     ensures short { IfOk result spec.IsShort }
 {
-    let Shown {
-        mut items,
-        mut names,
-    } = shown;
+    let (mut items, mut names) = shown.into_parts();
     items.push(value)?;
     names.push(name)?;
     Ok(Shown { items, names })
@@ -133,7 +145,7 @@ fn with_value(alloc: Global, shown: Shown, x: &SelectItem, t: Typed) -> Result<S
     }
     let place = shown.items.len() + 1;
     let name = output_name(alloc, place, &x.alias, column_alone(&x.value))?;
-    with_item(shown, t.value, name)
+    with_item(shown, t.into_value(), name)
 }
 
 #[tactic(auto, unfolding(crate::specs::Items::item))]

@@ -3,11 +3,11 @@
 ghost use Rattle.std.specs.Prelude.{◌≡◌};
 ghost use Rattle.query_types.specs.Kinds as spec;
 
-use query_read::BinaryOp;
+use query_trees::BinaryOp;
 use sql_read::ColumnKind;
 
 /// The kind of an expression's values.
-#[derive(Clone, Copy, Debug, PartialEq, Eq)]
+#[derive(Clone, Copy)]
 pub enum Kind {
     Number,
     Date,
@@ -16,7 +16,7 @@ pub enum Kind {
 }
 
 /// What an operator between two expressions works on.
-#[derive(Clone, Copy, Debug, PartialEq, Eq)]
+#[derive(Clone, Copy)]
 pub enum Family {
     /// Truths, which give a truth.
     Logic,
@@ -27,7 +27,7 @@ pub enum Family {
 }
 
 /// Where an expression stands.
-#[derive(Clone, Copy, Debug, PartialEq, Eq)]
+#[derive(Clone, Copy)]
 pub enum Role {
     /// As a side of a comparison, of BETWEEN or of IN.
     Side,
@@ -121,11 +121,11 @@ pub fn makes(of: Family) -> Kind
 }
 
 /// Whether an aggregate takes values of this kind.
-pub fn folds(of: query_read::AggregateKind, a: Kind) -> bool
+pub fn folds(of: query_trees::AggregateKind, a: Kind) -> bool
     ensures { result ≡ spec.folds of a }
 {
     match of {
-        query_read::AggregateKind::Sum | query_read::AggregateKind::Avg => is_number(a),
+        query_trees::AggregateKind::Sum | query_trees::AggregateKind::Avg => is_number(a),
         _ => !is_truth(a),
     }
 }

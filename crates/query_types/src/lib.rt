@@ -15,15 +15,11 @@ mod refusal;
 mod scope;
 mod sources;
 mod stars;
-mod typed;
 mod typing;
 
 pub use kinds::Kind;
 pub use query::type_query;
 pub use refusal::{TypeKind, TypeRefusal};
-pub use typed::{
-    Aggregate, AggregateKind, ColumnRef, KeyRef, OrderKey, PlanSource, TypedExpr, TypedQuery,
-};
 
 #[cfg(test)]
 mod tests;

@@ -7,9 +7,9 @@ ghost use Rattle.query_types.specs.Outcomes.{Gives};
 use crate::outcome::refusal;
 use crate::refusal::{TypeKind, TypeRefusal};
 use crate::scope::{Called, Found, Level, Scope};
-use crate::typed::ColumnRef;
-use query_read::ColumnName;
+use query_trees::ColumnName;
 use sql_read::{ColumnDef, TableDef};
+use typed_trees::ColumnRef;
 
 /// The columns of the table at this place of the catalog.
 pub fn columns_of(defs: &[TableDef], table: u32) -> &[ColumnDef]

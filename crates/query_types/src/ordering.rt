@@ -9,11 +9,11 @@ use crate::names::column;
 use crate::outcome::refusal;
 use crate::refusal::{TypeKind, TypeRefusal};
 use crate::scope::Scope;
-use crate::typed::{KeyRef, OrderKey};
 use io_edge::Name;
-use query_read::{ColumnName, Direction, SortBy, SortKey};
+use query_trees::{ColumnName, Direction, SortBy, SortKey};
 use sql_read::Listing;
 use std::alloc::Global;
+use typed_trees::{KeyRef, OrderKey};
 
 fn by_place(at: u32, items: usize, place: u128) -> Result<KeyRef, TypeRefusal>
     requires { items ≤ 64 }

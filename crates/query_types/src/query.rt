@@ -14,11 +14,11 @@ use crate::ordering::keys;
 use crate::refusal::TypeRefusal;
 use crate::scope::{Called, Level, Scope};
 use crate::sources::{Tables, tables_of};
-use crate::typed::{Aggregate, ColumnRef, OrderKey, TypedExpr, TypedQuery};
-use query_read::{Expr, Query};
+use query_trees::{Expr, Query};
 use sql_read::{Listing, TableDef};
 use sql_types::Catalog;
 use std::alloc::Global;
+use typed_trees::{Aggregate, ColumnRef, OrderKey, TypedExpr, TypedQuery};
 
 /// The parts of WHERE's condition.
 fn filter(
@@ -66,12 +66,70 @@ fn having(
 }
 
 /// The items, HAVING and ORDER BY.
-#[derive(Drop)]
 struct Answered {
     shown: Shown,
     having: Option<TypedExpr>,
     aggregates: Listing<Aggregate>,
     order: Listing<OrderKey>,
+}
+
+impl Drop for Answered {
+    fn drop(self) {
+        let Answered {
+            shown: _,
+            having: _,
+            aggregates: _,
+            order: _,
+        } = self;
+    }
+}
+
+impl Answered {
+    /// The same in this order.
+    fn ordered(self, order: Listing<OrderKey>) -> Answered
+        ensures { result ≡ spec.answered_with self.shown self.having self.aggregates order }
+    {
+        let Answered {
+            shown,
+            having,
+            aggregates,
+            order: _,
+        } = self;
+        Answered {
+            shown,
+            having,
+            aggregates,
+            order,
+        }
+    }
+
+    /// The whole query.
+    fn over(
+        self,
+        tables: Tables,
+        filter: Listing<TypedExpr>,
+        groups: Listing<ColumnRef>,
+    ) -> TypedQuery
+        ensures { result ≡ spec.query_of tables filter groups self }
+    {
+        let Answered {
+            shown,
+            having,
+            aggregates,
+            order,
+        } = self;
+        let (items, names) = shown.into_parts();
+        TypedQuery {
+            sources: tables.into_sources(),
+            filter,
+            groups,
+            aggregates,
+            having,
+            items,
+            order,
+            names,
+        }
+    }
 }
 
 #[tactic(auto, unfolding(crate::specs::Typing::answer))]
@@ -83,13 +141,19 @@ fn answer(alloc: Global, scope: &Scope<'_>, q: &Query) -> Result<Answered, TypeR
     let mut aggregates = Listing::new(alloc);
     let shown = shown_of(alloc, scope, &mut aggregates, &q.list)?;
     let having = having(alloc, scope, &mut aggregates, &q.having)?;
-    let order = keys(alloc, scope, shown.names.as_slice(), q.order.as_slice())?;
-    Ok(Answered {
+    let unordered = Answered {
         shown,
         having,
         aggregates,
-        order,
-    })
+        order: Listing::new(alloc),
+    };
+    let order = keys(
+        alloc,
+        scope,
+        unordered.shown.names.as_slice(),
+        q.order.as_slice(),
+    )?;
+    Ok(unordered.ordered(order))
 }
 
 /// The same on groups where the query is grouped, else on rows.
@@ -123,34 +187,6 @@ fn answer_over(
     }
 }
 
-fn whole(
-    tables: Tables,
-    filter: Listing<TypedExpr>,
-    groups: Listing<ColumnRef>,
-    rest: Answered,
-) -> TypedQuery
-    ensures { result ≡ spec.query_of tables filter groups rest }
-{
-    let Tables { called: _, sources } = tables;
-    let Answered {
-        shown,
-        having,
-        aggregates,
-        order,
-    } = rest;
-    let Shown { items, names } = shown;
-    TypedQuery {
-        sources,
-        filter,
-        groups,
-        aggregates,
-        having,
-        items,
-        order,
-        names,
-    }
-}
-
 #[tactic(auto, unfolding(crate::specs::Typing::typed_over))]
 fn typed_over(
     alloc: Global,
@@ -165,7 +201,7 @@ fn typed_over(
     let filter = filter(alloc, defs, tables.called.as_slice(), &q.filter)?;
     let groups = groups_of(alloc, defs, tables.called.as_slice(), q)?;
     let rest = answer_over(alloc, defs, tables.called.as_slice(), groups.as_slice(), q)?;
-    Ok(whole(tables, filter, groups, rest))
+    Ok(rest.over(tables, filter, groups))
 }
 
 #[tactic(auto, unfolding(crate::specs::Typing::typed_query))]

@@ -1,8 +1,8 @@
 //! What names are looked up in.
 
-use crate::typed::ColumnRef;
 use io_edge::Name;
 use sql_read::{ColumnKind, TableDef};
+use typed_trees::ColumnRef;
 
 /// A table of FROM, and the name by which it is called.
 #[derive(Drop)]
@@ -13,14 +13,14 @@ pub struct Called {
 }
 
 /// A column that a name means, and the kind of its values.
-#[derive(Clone, Copy, Debug)]
+#[derive(Clone, Copy)]
 pub struct Found {
     pub column: ColumnRef,
     pub kind: ColumnKind,
 }
 
 /// What an expression is evaluated on.
-#[derive(Clone, Copy, Debug, PartialEq, Eq)]
+#[derive(Clone, Copy)]
 pub enum Level {
     /// A row: all columns may stand, and no aggregate.
     Row,

@@ -12,17 +12,42 @@ use crate::names::{columns_of, resolved};
 use crate::outcome::refusal;
 use crate::refusal::{TypeKind, TypeRefusal};
 use crate::scope::{Called, Found};
-use crate::typed::{ColumnRef, PlanSource};
 use io_edge::Name;
-use query_read::{ColumnName, Join, JoinKind, Source, TableName};
+use query_trees::{ColumnName, Join, JoinKind, Source, TableName};
 use sql_read::{KeyDef, Listing, TableDef};
 use std::alloc::Global;
+use typed_trees::{ColumnRef, PlanSource};
 
 /// The tables of FROM: their names, and what they are.
-#[derive(Drop)]
 pub struct Tables {
     pub called: Listing<Called>,
     pub sources: Listing<PlanSource>,
+}
+
+impl Drop for Tables {
+    fn drop(self) {
+        let Tables {
+            called: _,
+            sources: _,
+        } = self;
+    }
+}
+
+impl Tables {
+    fn into_parts(self) -> (Listing<Called>, Listing<PlanSource>)
+        ensures { result ≡ (self.called, self.sources) }
+    {
+        let Tables { called, sources } = self;
+        (called, sources)
+    }
+
+    /// What the tables are.
+    pub fn into_sources(self) -> Listing<PlanSource>
+        ensures { result ≡ self.sources }
+    {
+        let Tables { called: _, sources } = self;
+        sources
+    }
 }
 
 fn call_name(t: &TableName) -> &Name
@@ -224,10 +249,7 @@ fn joined(alloc: Global, defs: &[TableDef], before: Tables, j: &Join) -> Result<
     ensures given { Gives (spec.joined defs.now before j.now) result }
     ensures few { IfOk result (λ f. length f.called ≤ 8) }
 {
-    let Tables {
-        mut called,
-        mut sources,
-    } = before;
+    let (mut called, mut sources) = before.into_parts();
     let s = called.len();
     let t = opened(alloc, defs, called.as_slice(), &j.table)?;
     let table = t.table;

@@ -8,10 +8,10 @@ ghost use Rattle.query_types.specs.Outcomes.{Gives};
 use crate::names::columns_of;
 use crate::refusal::TypeRefusal;
 use crate::scope::Called;
-use crate::typed::ColumnRef;
 use io_edge::Name;
 use sql_read::{ColumnDef, ColumnKind, Listing, TableDef};
 use std::alloc::Global;
+use typed_trees::ColumnRef;
 
 /// A column that `*` stands for.
 #[derive(Drop)]

@@ -1,12 +1,12 @@
 -- The interval of IN, by those of its list's elements.
-use Rattle.std.proofs.Common.{◌≡◌, ℕ, Bool, ◌&&◌, List, [], ◌∷◌, map, refl, sym, ap, ◌∙◌, is_some}
+use Rattle.std.proofs.Common.{◌≡◌, ◌&&◌, List, [], ◌∷◌, map, refl, sym, ap, ◌∙◌, is_some}
 use Rattle.std.specs.List.{list_all}
-use Rattle.query_read.specs.declared.tree.Polarity.{Polarity}
-use Rattle.query_types.specs.declared.typed.TypedExpr.{TypedExpr}
-use Rattle.query_types.specs.declared.typed.TypedExpr.TheOpen.{TypedExpr-F}
-use Rattle.query_types.specs.declared.typed.TypedExpr.TheFolds.{fold-roll-TypedExpr}
-use Rattle.query_types.specs.declared.typed.TypedExpr.TheVariants as e
-use Rattle.query_types.specs.declared.typed.TypedExpr.TheVariants.{rolls-In}
+use Rattle.query_trees.specs.declared.expr.Polarity.{Polarity}
+use Rattle.typed_trees.specs.declared.typed.TypedExpr.{TypedExpr}
+use Rattle.typed_trees.specs.declared.typed.TypedExpr.TheOpen.{TypedExpr-F}
+use Rattle.typed_trees.specs.declared.typed.TypedExpr.TheFolds.{fold-roll-TypedExpr}
+use Rattle.typed_trees.specs.declared.typed.TypedExpr.TheVariants as e
+use Rattle.typed_trees.specs.declared.typed.TypedExpr.TheVariants.{rolls-In}
 use Rattle.typed_values.specs.Bounds.{Bounds, form_bounds, bounds, tested, truth_if}
 
 all-map : (ys : List TypedExpr) → list_all (λ (b : Bounds). is_some b) (map bounds ys) ≡ list_all (λ y. is_some (bounds y)) ys

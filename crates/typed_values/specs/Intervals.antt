@@ -1,13 +1,13 @@
 -- The intervals of exact arithmetic: the least and the greatest of the exact results at the operands' ends.
-use Rattle.std.specs.Prelude.{ℕ, ◌^◌, ℤ, pos, negsuc, ◌+ℤ◌, ◌-ℤ◌, ◌*ℤ◌, int_div, nat_lt, Bool, true, false, if◌then◌else◌, Option, Some, None}
+use Rattle.std.specs.Prelude.{ℕ, ◌^◌, ℤ, pos, negsuc, ◌+ℤ◌, ◌-ℤ◌, ◌*ℤ◌, int_div, nat_lt, Bool, false, if◌then◌else◌, Option, Some, None}
 use Rattle.std.specs.Int.{int_min, int_max}
 use Rattle.control_vectors.specs.Slots.{in_128_bits}
 use Rattle.sql_read.specs.declared.definition.ColumnKind.{ColumnKind}
 use Rattle.sql_read.specs.declared.definition.ColumnKind.TheVariants as column
-use Rattle.query_read.specs.declared.tree.BinaryOp.{BinaryOp}
-use Rattle.query_read.specs.declared.tree.BinaryOp.TheVariants as op
-use Rattle.query_read.specs.declared.tree.Sign.{Sign}
-use Rattle.query_read.specs.declared.tree.Sign.TheVariants as sign
+use Rattle.query_trees.specs.declared.expr.BinaryOp.{BinaryOp}
+use Rattle.query_trees.specs.declared.expr.BinaryOp.TheVariants as op
+use Rattle.query_trees.specs.declared.expr.Sign.{Sign}
+use Rattle.query_trees.specs.declared.expr.Sign.TheVariants as sign
 use Rattle.typed_values.specs.declared.intervals.Interval.{Interval}
 
 abbrev pub interval : ℤ → ℤ → Interval

@@ -2,14 +2,14 @@
 use Rattle.std.specs.Prelude.{ℕ, Bool, true, false, ◌&&◌, ◌==◌, if◌then◌else◌, List, [], ◌∷◌, length, Option, Some, None, is_none}
 use Rattle.sql_read.specs.declared.definition.ColumnKind.{ColumnKind}
 use Rattle.sql_read.specs.declared.definition.ColumnKind.TheVariants.{Integer}
-use Rattle.query_types.specs.declared.typed.ColumnRef.{ColumnRef}
-use Rattle.query_types.specs.declared.typed.Aggregate.{Aggregate}
-use Rattle.query_types.specs.declared.typed.AggregateKind.{AggregateKind}
-use Rattle.query_types.specs.declared.typed.AggregateKind.TheVariants.{Sum}
-use Rattle.query_types.specs.declared.typed.PlanSource.{PlanSource}
-use Rattle.query_types.specs.declared.typed.TypedExpr.{TypedExpr}
-use Rattle.query_types.specs.declared.typed.TypedExpr.TheVariants as e
-use Rattle.query_types.specs.declared.typed.TypedQuery.{TypedQuery}
+use Rattle.typed_trees.specs.declared.typed.ColumnRef.{ColumnRef}
+use Rattle.typed_trees.specs.declared.typed.Aggregate.{Aggregate}
+use Rattle.typed_trees.specs.declared.typed.AggregateKind.{AggregateKind}
+use Rattle.typed_trees.specs.declared.typed.AggregateKind.TheVariants.{Sum}
+use Rattle.typed_trees.specs.declared.typed.PlanSource.{PlanSource}
+use Rattle.typed_trees.specs.declared.typed.TypedExpr.{TypedExpr}
+use Rattle.typed_trees.specs.declared.typed.TypedExpr.TheVariants as e
+use Rattle.typed_trees.specs.declared.typed.TypedQuery.{TypedQuery}
 
 pub record SumAsked : Type 0 where
   pub table : ℕ

@@ -1,18 +1,18 @@
 -- The value of an expression on a row or on a group. After SQL-92 (ISO/IEC 9075:1992), 6.12 <numeric value expression>, 8.2 to 8.4 and 8.12 <search condition>,
 -- but for arithmetic, which is exact, and Over where it leaves 128 bits.
-use Rattle.std.specs.Prelude.{ℕ, ℤ, pos, int_lt, int_div, Bool, true, false, not, ◌&&◌, ◌||◌, if◌then◌else◌, List, [], ◌∷◌, nat_lt, Option, Some, None, Result, Ok, Err}
+use Rattle.std.specs.Prelude.{ℕ, ℤ, pos, int_lt, int_div, Bool, true, false, not, ◌&&◌, ◌||◌, List, [], ◌∷◌, nat_lt, Option, Some, None, Result, Ok, Err}
 use Rattle.control_vectors.specs.declared.Over.{Over}
 use Rattle.control_vectors.specs.Slots.{over, in_128_bits}
-use Rattle.query_read.specs.declared.tree.BinaryOp.{BinaryOp}
-use Rattle.query_read.specs.declared.tree.BinaryOp.TheVariants as op
-use Rattle.query_read.specs.declared.tree.Polarity.{Polarity}
-use Rattle.query_read.specs.declared.tree.Polarity.TheVariants.{Plain, Negated}
-use Rattle.query_read.specs.declared.tree.Sign.{Sign}
-use Rattle.query_types.specs.declared.typed.ColumnRef.{ColumnRef}
-use Rattle.query_types.specs.declared.typed.TypedExpr.{TypedExpr}
-use Rattle.query_types.specs.declared.typed.TypedExpr.TheOpen.{TypedExpr-F}
-use Rattle.query_types.specs.declared.typed.TypedExpr.TheFolds.{fold-TypedExpr}
-use Rattle.typed_values.specs.Intervals.{signed, combined, is_zero}
+use Rattle.query_trees.specs.declared.expr.BinaryOp.{BinaryOp}
+use Rattle.query_trees.specs.declared.expr.BinaryOp.TheVariants as op
+use Rattle.query_trees.specs.declared.expr.Polarity.{Polarity}
+use Rattle.query_trees.specs.declared.expr.Polarity.TheVariants.{Plain, Negated}
+use Rattle.query_trees.specs.declared.expr.Sign.{Sign}
+use Rattle.typed_trees.specs.declared.typed.ColumnRef.{ColumnRef}
+use Rattle.typed_trees.specs.declared.typed.TypedExpr.{TypedExpr}
+use Rattle.typed_trees.specs.declared.typed.TypedExpr.TheOpen.{TypedExpr-F}
+use Rattle.typed_trees.specs.declared.typed.TypedExpr.TheFolds.{fold-TypedExpr}
+use Rattle.typed_values.specs.Intervals.{signed, combined}
 
 -- a number or a date as its day, the bytes of a text, a truth, or no value
 pub data Value : Type 0 where

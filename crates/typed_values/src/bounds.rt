@@ -8,8 +8,8 @@ use crate::intervals::{
     Interval, combined_interval, divisor, from_to, literal, of_kind, quotient_interval,
     signed_interval,
 };
-use query_read::{BinaryOp, Sign};
-use query_types::TypedExpr;
+use query_trees::{BinaryOp, Sign};
+use typed_trees::TypedExpr;
 
 fn truth() -> Interval
     ensures { result ≡ spec.truth }

@@ -5,7 +5,7 @@ ghost use Rattle.control_vectors.specs.Slots.{in_128_bits};
 ghost use Rattle.typed_values.specs.Intervals as spec;
 
 use control_vectors::{add, mul, quot, sub};
-use query_read::{BinaryOp, Sign};
+use query_trees::{BinaryOp, Sign};
 use sql_read::ColumnKind;
 
 /// The least and the greatest that a value may be.

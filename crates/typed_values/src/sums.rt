@@ -5,8 +5,8 @@ ghost use Rattle.std.specs.Option.{option_copied};
 ghost use Rattle.typed_values.specs.Sums as spec;
 
 use io_edge::Name;
-use query_types::{Aggregate, AggregateKind, ColumnRef, TypedExpr, TypedQuery};
 use sql_read::ColumnKind;
+use typed_trees::{Aggregate, AggregateKind, ColumnRef, TypedExpr, TypedQuery};
 
 /// The sum of a column of a table, and the name of the answer. Tables, and the columns of one, count from 0.
 #[derive(Clone, Copy)]

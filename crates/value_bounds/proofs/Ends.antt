@@ -7,10 +7,10 @@ use Rattle.std.proofs.Math.Nat.{div-zero}
 use Rattle.std.proofs.Math.IntN.{neg_ℤ-neg_ℤ, *ℤ_comm}
 use Rattle.control_vectors.specs.Slots.{fits_128}
 use Rattle.control_vectors.proofs.NumberLaws.{FitsSigned-from_fits_128}
-use Rattle.query_read.specs.declared.tree.BinaryOp.{BinaryOp}
-use Rattle.query_read.specs.declared.tree.BinaryOp.TheVariants as op
-use Rattle.query_read.specs.declared.tree.Sign.{Sign}
-use Rattle.query_read.specs.declared.tree.Sign.TheVariants as sign
+use Rattle.query_trees.specs.declared.expr.BinaryOp.{BinaryOp}
+use Rattle.query_trees.specs.declared.expr.BinaryOp.TheVariants as op
+use Rattle.query_trees.specs.declared.expr.Sign.{Sign}
+use Rattle.query_trees.specs.declared.expr.Sign.TheVariants as sign
 use Rattle.typed_values.specs.declared.intervals.Interval.{Interval}
 use Rattle.typed_values.specs.Intervals.{interval, point, hull, exact, literal, signed, signed_interval, combined, combined_interval, is_zero, quotient_interval}
 use borrow.Author.Differences.{up, down}

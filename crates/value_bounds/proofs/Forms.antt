@@ -5,11 +5,11 @@ use Rattle.control_vectors.specs.declared.Over.{Over}
 use Rattle.control_vectors.specs.Slots.{fits_128, in_128_bits}
 use Rattle.control_vectors.proofs.NumberLaws.{in_128_bits_yes, in_128_bits-some}
 use Rattle.sql_read.specs.declared.definition.ColumnKind.{ColumnKind}
-use Rattle.query_read.specs.declared.tree.BinaryOp.{BinaryOp}
-use Rattle.query_read.specs.declared.tree.BinaryOp.TheVariants as op
-use Rattle.query_read.specs.declared.tree.Polarity.{Polarity}
-use Rattle.query_read.specs.declared.tree.Polarity.TheVariants.{Plain, Negated}
-use Rattle.query_read.specs.declared.tree.Sign.{Sign}
+use Rattle.query_trees.specs.declared.expr.BinaryOp.{BinaryOp}
+use Rattle.query_trees.specs.declared.expr.BinaryOp.TheVariants as op
+use Rattle.query_trees.specs.declared.expr.Polarity.{Polarity}
+use Rattle.query_trees.specs.declared.expr.Polarity.TheVariants.{Plain, Negated}
+use Rattle.query_trees.specs.declared.expr.Sign.{Sign}
 use Rattle.typed_values.specs.declared.intervals.Interval.{Interval}
 use Rattle.typed_values.specs.Intervals.{interval, of_kind, literal, signed, signed_interval, combined, combined_interval, quotient_interval, divisor}
 use Rattle.typed_values.specs.Bounds as b

@@ -1,10 +1,10 @@
 -- The value of an expression lies in its interval, by induction over the expression.
 use Rattle.std.proofs.Common.{◌≡◌, pos, Bool, true, List, [], ◌∷◌, map, Some, None, Ok, is_some, refl, sym, ◌∙◌, subst}
 use Rattle.std.specs.List.{list_all}
-use Rattle.query_types.specs.declared.typed.ColumnRef.{ColumnRef}
-use Rattle.query_types.specs.declared.typed.TypedExpr.{TypedExpr, roll-TypedExpr}
-use Rattle.query_types.specs.declared.typed.TypedExpr.TheOpen.{TypedExpr-F}
-use Rattle.query_types.specs.declared.typed.TypedExpr.TheFolds.{map-TypedExpr, fold-roll-TypedExpr, ind-TypedExpr}
+use Rattle.typed_trees.specs.declared.typed.ColumnRef.{ColumnRef}
+use Rattle.typed_trees.specs.declared.typed.TypedExpr.{TypedExpr, roll-TypedExpr}
+use Rattle.typed_trees.specs.declared.typed.TypedExpr.TheOpen.{TypedExpr-F}
+use Rattle.typed_trees.specs.declared.typed.TypedExpr.TheFolds.{map-TypedExpr, fold-roll-TypedExpr, ind-TypedExpr}
 use Rattle.typed_values.specs.declared.intervals.Interval.{Interval}
 use Rattle.typed_values.specs.Intervals.{interval}
 use Rattle.typed_values.specs.Bounds.{Bounds, form_bounds, bounds}

@@ -2,10 +2,10 @@
 use Rattle.std.specs.Prelude.{◌≡◌, ◌≢◌, int_le, Bool, true, ◌&&◌, Some, Err, IsOkAnd}
 use Rattle.std.specs.List.{list_all}
 use Rattle.control_vectors.specs.Slots.{over}
-use Rattle.query_types.specs.declared.typed.ColumnRef.{ColumnRef}
-use Rattle.query_types.specs.declared.typed.TypedExpr.{TypedExpr}
-use Rattle.query_types.specs.declared.typed.TypedExpr.TheOpen.{TypedExpr-F}
-use Rattle.query_types.specs.declared.typed.TypedExpr.TheFolds.{fold-TypedExpr}
+use Rattle.typed_trees.specs.declared.typed.ColumnRef.{ColumnRef}
+use Rattle.typed_trees.specs.declared.typed.TypedExpr.{TypedExpr}
+use Rattle.typed_trees.specs.declared.typed.TypedExpr.TheOpen.{TypedExpr-F}
+use Rattle.typed_trees.specs.declared.typed.TypedExpr.TheFolds.{fold-TypedExpr}
 use Rattle.typed_values.specs.declared.intervals.Interval.{Interval}
 use Rattle.typed_values.specs.Intervals.{of_kind}
 use Rattle.typed_values.specs.Bounds.{bounds, cannot_overflow}

@@ -1,6 +1,5 @@
-use Rattle.std.proofs.Common.{◌≡◌, false, [], ◌∷◌, ◌++◌, rules, arith, ap, sym, ◌∙◌}
+use Rattle.std.proofs.Common.{rules, arith, sym, ◌∙◌}
 use Rattle.std.proofs.lemmas.Grind.{common_steps}
-use Rattle.query_types.specs.Conjuncts as spec
 use Rattle.query_types.proofs.Parts.{and-parts, binary-alone, other-alone}
 use Rattle.query_types.proofs.conjuncts.+add_parts.Goals as goal
 

@@ -1,12 +1,12 @@
 //! A query as it is meant: names are places in the catalog, and aggregates are places in a list.
 
 use io_edge::Name;
-use query_read::{BinaryOp, Polarity, Sign};
+use query_trees::{BinaryOp, Polarity, Sign};
 use sql_read::{ColumnKind, Listing};
 use sqlite_items::{Boxed, Items};
 
 /// A column of FROM. Sources, and the columns of a table, count from 0.
-#[derive(Clone, Copy, Debug, PartialEq, Eq)]
+#[derive(Clone, Copy)]
 pub struct ColumnRef {
     pub source: u32,
     pub column: u32,
@@ -17,8 +17,8 @@ pub struct ColumnRef {
 pub enum TypedExpr {
     /// A whole number that is not negative.
     Number(u128),
-    /// The bytes of a text literal.
-    Text(Listing<u8>),
+    /// A text literal.
+    Text(Name),
     /// A date with its intervals: the days from 1970-01-01.
     Date(i32),
     Column(ColumnRef, ColumnKind),
@@ -36,7 +36,7 @@ pub enum TypedExpr {
 }
 
 /// What an aggregate makes of its argument's values.
-#[derive(Clone, Copy, Debug, PartialEq, Eq)]
+#[derive(Clone, Copy)]
 pub enum AggregateKind {
     Count,
     Sum,
@@ -46,14 +46,22 @@ pub enum AggregateKind {
 }
 
 /// An aggregate. It has no argument for `COUNT(*)` alone.
-#[derive(Drop)]
 pub struct Aggregate {
     pub kind: AggregateKind,
     pub argument: Option<TypedExpr>,
 }
 
+// Written out here and below, so that letting go of one is a call, in place of a match over each form of its expressions.
+impl Drop for Aggregate {
+    fn drop(self) {
+        let Aggregate {
+            kind: _,
+            argument: _,
+        } = self;
+    }
+}
+
 /// A table of FROM.
-#[derive(Drop)]
 pub struct PlanSource {
     /// The table's place in the catalog.
     pub table: u32,
@@ -65,8 +73,19 @@ pub struct PlanSource {
     pub join: Option<(ColumnRef, u32)>,
 }
 
+impl Drop for PlanSource {
+    fn drop(self) {
+        let PlanSource {
+            table: _,
+            columns: _,
+            filter: _,
+            join: _,
+        } = self;
+    }
+}
+
 /// What a key of ORDER BY is.
-#[derive(Clone, Copy, Debug, PartialEq, Eq)]
+#[derive(Clone, Copy)]
 pub enum KeyRef {
     /// An item, by its place from 0.
     Item(u32),
@@ -74,14 +93,13 @@ pub enum KeyRef {
 }
 
 /// A key of ORDER BY.
-#[derive(Clone, Copy, Debug, PartialEq, Eq)]
+#[derive(Clone, Copy)]
 pub struct OrderKey {
     pub key: KeyRef,
     pub descending: bool,
 }
 
 /// A query as it is meant.
-#[derive(Drop)]
 pub struct TypedQuery {
     /// The tables of FROM, in order.
     pub sources: Listing<PlanSource>,
@@ -99,4 +117,19 @@ pub struct TypedQuery {
     pub order: Listing<OrderKey>,
     /// The output name of each item.
     pub names: Listing<Name>,
+}
+
+impl Drop for TypedQuery {
+    fn drop(self) {
+        let TypedQuery {
+            sources: _,
+            filter: _,
+            groups: _,
+            aggregates: _,
+            having: _,
+            items: _,
+            order: _,
+            names: _,
+        } = self;
+    }
 }
