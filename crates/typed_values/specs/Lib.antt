@@ -2,3 +2,4 @@ pub mod Intervals
 pub mod Bounds
 pub mod Sums
 pub mod Values
+pub mod Examples

@@ -1,6 +1,9 @@
 -- The value of an expression on a row or on a group. After SQL-92 (ISO/IEC 9075:1992), 6.12 <numeric value expression>, 8.2 to 8.4 and 8.12 <search condition>,
 -- but for arithmetic, which is exact, and Over where it leaves 128 bits.
-use Rattle.std.specs.Prelude.{ℕ, ℤ, pos, int_lt, int_div, Bool, true, false, not, ◌&&◌, ◌||◌, List, [], ◌∷◌, nat_lt, Option, Some, None, Result, Ok, Err}
+use Rattle.std.specs.Prelude.{ℕ, ℤ, pos, int_div, Bool, true, false, not, List, [], ◌∷◌, Option, Some, None, Result, Ok, Err}
+use Rattle.std.specs.declared.cmp.Ordering.{Ordering}
+use Rattle.std.specs.Ordering.{is_lt, is_eq, is_gt}
+use Rattle.sql_values.specs.Values.{Value, number, text, truth, null, by_value}
 use Rattle.control_vectors.specs.declared.Over.{Over}
 use Rattle.control_vectors.specs.Slots.{over, in_128_bits}
 use Rattle.query_trees.specs.declared.expr.BinaryOp.{BinaryOp}
@@ -13,13 +16,6 @@ use Rattle.typed_trees.specs.declared.typed.TypedExpr.{TypedExpr}
 use Rattle.typed_trees.specs.declared.typed.TypedExpr.TheOpen.{TypedExpr-F}
 use Rattle.typed_trees.specs.declared.typed.TypedExpr.TheFolds.{fold-TypedExpr}
 use Rattle.typed_values.specs.Intervals.{signed, combined}
-
--- a number or a date as its day, the bytes of a text, a truth, or no value
-pub data Value : Type 0 where
-  number : ℤ → Value
-  text : List ℕ → Value
-  truth : Bool → Value
-  null : Value
 
 -- a value, or Over: a number that leaves 128 bits
 abbrev pub Valued : Type 0
@@ -61,34 +57,21 @@ abbrev pub divided : Value → Sign → ℕ → Valued
 divided (number x) s n = exact (int_div x (signed s (pos n)))
 divided a s n = Ok null
 
--- ---- comparisons: numbers and dates by number, texts by bytes; unknown, a null, beside a null
+-- ---- comparisons: by the order of values; unknown, a null, beside a null
 
-abbrev pub text_lt : List ℕ → List ℕ → Bool
-text_lt xs [] = false
-text_lt [] (y ∷ ys) = true
-text_lt (x ∷ xs) (y ∷ ys) = nat_lt x y || (not (nat_lt y x) && text_lt xs ys)
-
--- whether the first is below the second, where both have values
-abbrev pub below : Value → Value → Option Bool
-below (number x) (number y) = Some (int_lt x y)
-below (text x) (text y) = Some (text_lt x y)
-below a b = None
-
--- by whether the left is below the right, and the right below the left
-abbrev pub holds : BinaryOp → Bool → Bool → Bool
-holds op.Equal lt gt = not lt && not gt
-holds op.Differs lt gt = lt || gt
-holds op.Less lt gt = lt
-holds op.LessEqual lt gt = not gt
-holds op.Greater lt gt = gt
-holds o lt gt = not lt
-
-abbrev pub compared_by : BinaryOp → Option Bool → Option Bool → Value
-compared_by o (Some lt) (Some gt) = truth (holds o lt gt)
-compared_by o lt gt = null
+-- what a comparison is true of: how its left side compares with its right one
+abbrev pub holds : BinaryOp → Ordering → Bool
+holds op.Equal r = is_eq r
+holds op.Differs r = not (is_eq r)
+holds op.Less r = is_lt r
+holds op.LessEqual r = not (is_gt r)
+holds op.Greater r = is_gt r
+holds o r = not (is_lt r)
 
 abbrev pub compared : BinaryOp → Value → Value → Value
-compared o a b = compared_by o (below a b) (below b a)
+compared o null b = null
+compared o a null = null
+compared o a b = truth (holds o (by_value a b))
 
 -- ---- truths, where null is unknown
 

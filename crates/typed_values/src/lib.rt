@@ -3,6 +3,7 @@
 
 mod bounds;
 mod intervals;
+pub mod laws;
 mod sums;
 
 pub use bounds::cannot_overflow;

@@ -14,7 +14,8 @@ use Rattle.typed_values.specs.declared.intervals.Interval.{Interval}
 use Rattle.typed_values.specs.Intervals.{interval, of_kind, literal, signed, signed_interval, combined, combined_interval, quotient_interval, divisor}
 use Rattle.typed_values.specs.Bounds as b
 use Rattle.typed_values.specs.Bounds.{Bounds}
-use Rattle.typed_values.specs.Values.{Value, number, text, truth, null, Valued, with, with_both, or_over, exact, calculated, signed_value, divided, compared_by, compared, below, both, opposite, either, by_polarity, between, among, joined, more_valued, all_valued, among_valued}
+use Rattle.sql_values.specs.Values.{Value, number, text, truth, null}
+use Rattle.typed_values.specs.Values.{Valued, with, with_both, or_over, exact, calculated, signed_value, divided, compared, both, opposite, either, by_polarity, between, among, joined, more_valued, all_valued, among_valued}
 use Rattle.value_bounds.specs.Laws.{holds}
 use Rattle.value_bounds.proofs.Ends.{Covers, no_interval, literal_covers, signed_covers, combined_covers, quotient_covers}
 
@@ -89,13 +90,10 @@ both_free v w i = refl
 either_free : (v w : Value) → IsFree (either v w)
 either_free v w = opposite_free (both (opposite v) (opposite w))
 
-compared_by_free : (o : BinaryOp) (x y : Option Bool) → IsFree (compared_by o x y)
-compared_by_free o (Some x) (Some y) i = refl
-compared_by_free o (Some x) None i = refl
-compared_by_free o None y i = refl
-
 compared_free : (o : BinaryOp) (v w : Value) → IsFree (compared o v w)
-compared_free o v w = compared_by_free o (below v w) (below w v)
+compared_free o null w i = refl
+compared_free o v null i = refl
+compared_free o v w i = refl
 
 by_polarity_free : (p : Polarity) (v : Value) → IsFree v → IsFree (by_polarity p v)
 by_polarity_free Plain v h = h

@@ -8,7 +8,8 @@ use Rattle.typed_trees.specs.declared.typed.TypedExpr.TheFolds.{map-TypedExpr, f
 use Rattle.typed_values.specs.declared.intervals.Interval.{Interval}
 use Rattle.typed_values.specs.Intervals.{interval}
 use Rattle.typed_values.specs.Bounds.{Bounds, form_bounds, bounds}
-use Rattle.typed_values.specs.Values.{Value, null, Valued, On, form_value, value, value_on_row, all_valued}
+use Rattle.sql_values.specs.Values.{Value, null}
+use Rattle.typed_values.specs.Values.{Valued, On, form_value, value, value_on_row, all_valued}
 use Rattle.value_bounds.specs.Laws.{form_fits, fits, ValueLaw, NeverOver}
 use Rattle.value_bounds.proofs.Forms.{HasValue, IsBounded, HasValues, and_left, and_right, number_bounded, text_bounded, date_bounded, column_bounded, aggregate_bounded, signed_bounded, not_bounded, binary_bounded, divide_bounded, between_bounded, all_more, in_bounded}
 

@@ -9,7 +9,8 @@ use Rattle.typed_trees.specs.declared.typed.TypedExpr.TheFolds.{fold-TypedExpr}
 use Rattle.typed_values.specs.declared.intervals.Interval.{Interval}
 use Rattle.typed_values.specs.Intervals.{of_kind}
 use Rattle.typed_values.specs.Bounds.{bounds, cannot_overflow}
-use Rattle.typed_values.specs.Values.{Value, number, value_on_row}
+use Rattle.sql_values.specs.Values.{Value, number}
+use Rattle.typed_values.specs.Values.{value_on_row}
 
 -- a number between the ends; a text, a truth and null are no numbers, and an interval says nothing of them
 abbrev pub holds : Interval → Value → Bool

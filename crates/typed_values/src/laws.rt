@@ -1,0 +1,29 @@
+//! Worked evaluations of each operator, each table stated once, as a contract.
+
+ghost use Rattle.typed_values.specs.Examples.{AndTable, OrTable, NotTable, ComparisonTable, BetweenTable, InTable, SumTable, QuotientTable, NegativeTable, WholeTable};
+
+/// AND, OR and NOT over true, false, unknown and Over.
+pub fn truths()
+    ensures and { AndTable }
+    ensures or { OrTable }
+    ensures not { NotTable }
+{}
+
+/// The six comparisons of numbers, dates, texts and nulls; BETWEEN, IN and their negations.
+pub fn comparisons()
+    ensures sides { ComparisonTable }
+    ensures betweens { BetweenTable }
+    ensures ins { InTable }
+{}
+
+/// SumTable, differences, products, quotients and negatives, up to the ends of 128 bits.
+pub fn arithmetic()
+    ensures sums { SumTable }
+    ensures quotients { QuotientTable }
+    ensures negatives { NegativeTable }
+{}
+
+/// Expressions of several operators, on a row.
+pub fn expressions()
+    ensures { WholeTable }
+{}
