@@ -1,4 +1,6 @@
 pub mod Texts
+pub mod Bools
+pub mod Forms
 pub mod Steps
 pub mod ReadingLaws
 pub mod Orders

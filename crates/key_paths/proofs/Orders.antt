@@ -8,56 +8,21 @@ use Rattle.std.specs.declared.cmp.Ordering.{Ordering}
 use Rattle.std.specs.declared.cmp.Ordering.TheVariants.{Less, Equal, Greater}
 use Rattle.std.specs.Cmp.Lexicographic.{slice_cmp}
 use Rattle.std.proofs.lemmas.Cmp.{nat_list_cmp_total}
-use Rattle.std.proofs.lemmas.Bool.{cases_order}
+use Rattle.std.proofs.lemmas.Bool.{and_parts, cases_order}
 use Rattle.std.proofs.lemmas.Bool.Decides.{nat_tests}
-use Rattle.std.proofs.lemmas.List.Folds.{list_all-append}
 use Rattle.std.proofs.lemmas.Slice.Eq.{bytes_eq-Decides}
-use Rattle.key_paths.specs.Paths.{is_dot, begins_segment, is_in_segment, is_segment, joined, path_text, IsPath}
+use Rattle.key_paths.specs.Paths.{is_dot, joined, path_text, IsPath}
 use Rattle.key_paths.specs.Substructures.{is_root, begins_segment_or_ends, is_at_or_below, is_before}
+use Rattle.key_paths.proofs.Bools.{no_true, all_weaker}
+use Rattle.key_paths.proofs.Forms.{is_in_path, path_inside}
 
 -- ---- the bytes of a path: the first is a dot, and none is below it
 
-from_dot : ℕ → Bool
-from_dot b = nat_le 46 b
-
-pub and_parts : (a b : Bool) → (a && b) ≡ true → (a ≡ true) × (b ≡ true)
-and_parts true b h = (refl, h)
-and_parts false b h = cc
-
-begins_from_dot : (b : ℕ) → begins_segment b ≡ true → nat_le 46 b ≡ true
-begins_from_dot b h = grind (arith, nat_tests)
-
-inside_from_dot : (b : ℕ) → is_in_segment b ≡ true → nat_le 46 b ≡ true
-inside_from_dot b h = grind (arith, nat_tests)
-
-word_from_dot : (xs : List ℕ) → list_all is_in_segment xs ≡ true → list_all (λ b. nat_le 46 b) xs ≡ true
-word_from_dot [] h = refl
-word_from_dot (x ∷ xs) h =
-    let p = and_parts (is_in_segment x) (list_all is_in_segment xs) h in
-    rw (inside_from_dot x p.0) (word_from_dot xs p.1)
-
-segment_from_dot : (s : List ℕ) → is_segment s ≡ true → list_all (λ b. nat_le 46 b) s ≡ true
-segment_from_dot [] h = refl
-segment_from_dot (x ∷ xs) h =
-    let p = and_parts (begins_segment x) (list_all is_in_segment xs && nat_le (length xs) 63) h in
-    let q = and_parts (list_all is_in_segment xs) (nat_le (length xs) 63) p.1 in
-    rw (begins_from_dot x p.0) (word_from_dot xs q.0)
-
-joined_from_dot : (ss : List (List ℕ)) → list_all is_segment ss ≡ true → list_all (λ b. nat_le 46 b) (joined ss) ≡ true
-joined_from_dot [] h = refl
-joined_from_dot (s ∷ ss) h =
-    let p = and_parts (is_segment s) (list_all is_segment ss) h in
-    list_all-append (λ b. nat_le 46 b) s (joined ss) ∙ rw (segment_from_dot s p.0) (joined_from_dot ss p.1)
-
-text_from_dot : (ss : List (List ℕ)) → list_all is_segment ss ≡ true → list_all (λ b. nat_le 46 b) (path_text ss) ≡ true
-text_from_dot [] h = refl
-text_from_dot (s ∷ ss) h = joined_from_dot (s ∷ ss) h
+in_path_from_dot : (b : ℕ) → is_in_path b ≡ true → nat_le 46 b ≡ true
+in_path_from_dot b h = grind (arith, nat_tests)
 
 pub path_from_dot : (text : List ℕ) → IsPath text → list_all (λ b. nat_le 46 b) text ≡ true
-path_from_dot text h = rw h.is (text_from_dot h.segments h.each)
-
-no_true : {b : Bool} → b ≡ false → b ≡ true → ⊥
-no_true h k = cc
+path_from_dot text h = all_weaker is_in_path (λ b. nat_le 46 b) in_path_from_dot text (path_inside text h)
 
 -- ---- orders
 

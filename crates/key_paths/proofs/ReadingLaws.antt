@@ -4,9 +4,10 @@ use Rattle.std.specs.Prelude.{Result, Ok, Err, Option, Some, None, slice_get, na
 use Rattle.std.specs.List.{list_all}
 use Rattle.std.proofs.Common.{get_or, subst}
 use Rattle.std.proofs.Math.Seq.{take-append_seam, take-append-add, drop-cons}
-use Rattle.std.proofs.lemmas.List.{length_push, length-append, take-append-drop, length-take-le, take_more}
+use Rattle.std.proofs.lemmas.List.{length_push, length-append, take-append-drop, length-take-le, take_all, take_more}
 use Rattle.std.proofs.lemmas.Option.{slice_get_past}
 use Rattle.std.proofs.lemmas.List.Folds.{list_all-append}
+use Rattle.std.proofs.lemmas.Bool.{and_parts}
 use Rattle.std.proofs.lemmas.Bool.Decides.{nat_tests}
 use Rattle.key_paths.specs.Paths.{is_dot, begins_segment, is_in_segment, is_segment, joined, path_text, last_width, kind_inside, kind_after, IsPath, BeginsPath, IsFault}
 use Rattle.key_paths.specs.Reading.{reached, step_of, end_of}
@@ -14,6 +15,7 @@ use Rattle.key_paths.specs.declared.reading.Reached.{Reached}
 use Rattle.key_paths.specs.declared.refusal.PathKind.{PathKind}
 use Rattle.key_paths.specs.declared.refusal.PathKind.TheVariants.{NoDot, EmptySegment, SegmentTooLong, BadByte}
 use Rattle.key_paths.proofs.Texts.{joined-push, path_text-push, last_width_dot, last_width_inside, not_dot_from_begins, not_dot_from_inside}
+use Rattle.key_paths.proofs.Forms.{segment_some, segment_short}
 use Rattle.key_paths.proofs.Steps.{Stepped, dot, first, inner, Refused, no_dot, empty, deep, bad_first, bad_inner, long, stepped, refused, choice, either, above_zero, is_zero}
 
 abbrev pub next : Result Reached PathKind → (Reached → Result Reached PathKind) → Result Reached PathKind
@@ -73,10 +75,6 @@ all_push before last h k = rw (list_all-append is_segment before (last ∷ []), 
 segment_first : (b : ℕ) → begins_segment b ≡ true → is_segment (b ∷ []) ≡ true
 segment_first b h = rw h refl
 
-and_parts : (a b : Bool) → (a && b) ≡ true → (a ≡ true) × (b ≡ true)
-and_parts true b h = (refl, h)
-and_parts false b h = cc
-
 few_push : (n : ℕ) → n < 63 → nat_le (n + 1) 63 ≡ true
 few_push n h = grind (arith, nat_tests)
 
@@ -90,17 +88,6 @@ segment_push (x ∷ xs) b h k l =
     let more = and_parts (list_all is_in_segment xs) (nat_le (length xs) 63) parts.1 in
     let few : nat_le (length (xs ++ b ∷ [])) 63 ≡ true = rw (length_push xs b) (few_push (length xs) (omega arith)) in
     rw (list_all-append is_in_segment xs (b ∷ []), parts.0, more.0, k, few) refl
-
-width_above : (last : List ℕ) → is_segment last ≡ true → 0 < length last
-width_above [] h = cc
-width_above (x ∷ xs) h = omega arith
-
-width_below : (last : List ℕ) → is_segment last ≡ true → length last ≤ 64
-width_below [] h = cc
-width_below (x ∷ xs) h =
-    let parts = and_parts (begins_segment x) (list_all is_in_segment xs && nat_le (length xs) 63) h in
-    let more = and_parts (list_all is_in_segment xs) (nat_le (length xs) 63) parts.1 in
-    omega (arith, few_from_test (length xs) more.1)
 
 reads_dot : (r after : Reached) (b : ℕ) (text : List ℕ) → Reads r text → is_dot b ≡ true → (r.segments ≡ 0) ⊎ (0 < r.width) → r.segments < 8 → after ≡ reached (r.segments + 1) 0 → Reads after (text ++ b ∷ [])
 reads_dot r after b text (nothing z w t) d c few is =
@@ -117,7 +104,7 @@ reads_first : (r after : Reached) (b : ℕ) (text : List ℕ) → Reads r text �
 reads_first r after b text (nothing z w t) some width begins is = absurd (omega arith)
 reads_first r after b text (segments before n few all w t) some width begins is =
     rw (is, t) (inside before (b ∷ []) n few all refl (segment_first b begins) (append_assoc (joined before) (46 ∷ []) (b ∷ [])))
-reads_first r after b text (inside before last n few all w s t) some width begins is = absurd (omega (arith, width_above last s))
+reads_first r after b text (inside before last n few all w s t) some width begins is = absurd (omega (arith, segment_some last s))
 
 reads_inner : (r after : Reached) (b : ℕ) (text : List ℕ) → Reads r text → 0 < r.width → is_in_segment b ≡ true → r.width < 64 → after ≡ reached r.segments (r.width + 1) → Reads after (text ++ b ∷ [])
 reads_inner r after b text (nothing z w t) some within short is = absurd (omega arith)
@@ -226,13 +213,13 @@ read_joined : (segments : List (List ℕ)) (d w : ℕ) → list_all is_segment s
 read_joined [] d w h c few = record { width = w; ok = ap (λ n. Ok (reached n w)) (let e : d ≡ d + 0 = omega arith in e); above = inl (refl, refl) }
 read_joined (s ∷ ss) d w h c few =
     let parts = and_parts (is_segment s) (list_all is_segment ss) h in
-    let others = read_joined ss (d + 1) (length s) parts.1 (inr (width_above s parts.0)) (omega arith) in
+    let others = read_joined ss (d + 1) (length s) parts.1 (inr (segment_some s parts.0)) (omega arith) in
     let here : read_on (s ++ joined ss) (reached (d + 1) 0) ≡ read_on (joined ss) (reached (d + 1) (length s)) =
     read_on-append s (joined ss) (reached (d + 1) 0) ∙ ap (λ (r : Result Reached PathKind). next r (read_on (joined ss))) (read_segment s (d + 1) parts.0 (omega arith)) in
     record {
       width = others.width;
       ok = ap (λ (r : Result Reached PathKind). next r (read_on (s ++ joined ss))) (dot_ok d w c (omega arith)) ∙ (here ∙ (others.ok ∙ ap (λ n. Ok (reached n others.width)) (let e : d + 1 + length ss ≡ d + suc (length ss) = omega arith in e)));
-      above = inr (elim others.above [ inl e ↦ let a = width_above s parts.0 in omega (arith, e.0) | inr a ↦ a ]);
+      above = inr (elim others.above [ inl e ↦ let a = segment_some s parts.0 in omega (arith, e.0) | inr a ↦ a ]);
     }
 
 end_ok : (d w : ℕ) → 0 < d → 0 < w → end_of (reached d w) ≡ Ok tt
@@ -279,7 +266,7 @@ longer r text (inside before last n few all w s t) h = rw (t, length-append (joi
 width_most : (r : Reached) (text : List ℕ) → Reads r text → r.width ≤ 64
 width_most r text (nothing z w t) = omega arith
 width_most r text (segments before n few all w t) = omega arith
-width_most r text (inside before last n few all w s t) = omega (arith, width_below last s)
+width_most r text (inside before last n few all w s t) = omega (arith, segment_short last s)
 
 empty_from_start : (r : Reached) (text : List ℕ) → Reads r text → r.segments ≡ 0 → text ≡ []
 empty_from_start r text (nothing z w t) h = t
@@ -291,10 +278,6 @@ is_one n h = grind (arith, nat_tests)
 
 zero_test : (n : ℕ) → n ≡ 0 → nat_eq n 0 ≡ false → ⊥
 zero_test n z h = cc (rw z at h)
-
-take_all : (text : List ℕ) → take (length text) text ≡ text
-take_all [] = refl
-take_all (x ∷ text) = ap (λ (l : List ℕ). x ∷ l) (take_all text)
 
 test_64 : (n : ℕ) → 64 ≤ n → n ≤ 64 → nat_eq n 64 ≡ true
 test_64 n h k = grind (arith, nat_tests)
@@ -350,9 +333,9 @@ fault_at_end text r kind h s =
     record {
       none = λ p. let whole = read_path text p in cc (whole.ok, whole.end, h, s);
       within = omega arith;
-      begins = rw (take_all text) (begins_from_reads r text k.reads);
+      begins = rw (take_all (length text) text (omega arith)) (begins_from_reads r text k.reads);
       stops = λ l p. absurd (omega arith);
-      kind_is = rw (take_all text, slice_get_past text (length text) (omega arith)) (kind_at_end r text kind k (end_refused r kind s));
+      kind_is = rw (take_all (length text) text (omega arith), slice_get_past text (length text) (omega arith)) (kind_at_end r text kind k (end_refused r kind s));
     }
 
 one_segment : (before : List (List ℕ)) (n : ℕ) → n ≡ length before + 1 → n ≡ 1 → before ≡ []
@@ -403,4 +386,4 @@ read_more text i r after h e s =
 pub read_to_end : (text : List ℕ) (i : ℕ) (r : Reached) → length text ≤ i → i ≤ length text → read_on (take i text) start ≡ Ok r → read_on text start ≡ Ok r
 read_to_end text i r h k e =
     let same : i ≡ length text = omega arith in
-    rw (same, take_all text) at e
+    rw (same, take_all (length text) text (omega arith)) at e

@@ -3,11 +3,12 @@ use Rattle.std.proofs.Common.{◌≡◌, ℕ, suc, ◌+◌, ◌-◌, ◌≤◌, 
 use Rattle.std.specs.Prelude.{slice_range}
 use Rattle.std.specs.List.{All, AllPairs, filter, count_by}
 use Rattle.std.proofs.lemmas.List.Sums.{sum_by-cons, sum_by_push}
-use Rattle.std.proofs.lemmas.List.{length_push, take_more}
+use Rattle.std.proofs.lemmas.List.{length_push, take_all, take_more}
 use Rattle.std.specs.Prelude.{if◌then◌else◌}
 use Rattle.std.proofs.lemmas.List.Elements.{All-cons, All-push}
 use Rattle.key_paths.specs.Paths.{IsPath}
 use Rattle.key_paths.specs.Substructures.{is_at_or_below, is_before, IsAscending}
+use Rattle.key_paths.proofs.Bools.{no_true}
 use Rattle.key_paths.proofs.Orders.{below_not_before, below_between, before_trans}
 
 -- ---- counts and filters of a list with one element more
@@ -47,9 +48,6 @@ none_kept p (x ∷ xs) h = filter_no p x xs (all_head (λ y. p y ≡ false) x xs
 not_true : (b : Bool) → (b ≡ true → ⊥) → b ≡ false
 not_true true h = absurd (h refl)
 not_true false h = refl
-
-no_true : {b : Bool} → b ≡ false → b ≡ true → ⊥
-no_true h k = cc
 
 -- ---- the stretch
 
@@ -133,9 +131,5 @@ counted_after above x seen from count h path b l = record {
 pub seen_more : (xs : List (List ℕ)) (i : ℕ) (x : List ℕ) → i < length xs → x ≡ get_or xs i x → take (i + 1) xs ≡ take i xs ++ x ∷ []
 seen_more xs i x h e = take_more xs i x h ∙ ap (λ (y : List ℕ). take i xs ++ y ∷ []) (sym e)
 
-take_all : (xs : List (List ℕ)) → take (length xs) xs ≡ xs
-take_all [] = refl
-take_all (x ∷ xs) = ap (λ (l : List (List ℕ)). x ∷ l) (take_all xs)
-
 pub all_seen : (above : List ℕ) (xs : List (List ℕ)) (i from count : ℕ) → length xs ≤ i → i ≤ length xs → Counted above (take i xs) from count → Counted above xs from count
-all_seen above xs i from count h k c = let same : i ≡ length xs = omega arith in rw (same, take_all xs) at c
+all_seen above xs i from count h k c = let same : i ≡ length xs = omega arith in rw (same, take_all (length xs) xs (omega arith)) at c

@@ -1,7 +1,8 @@
 -- The texts that are paths, and the first fault of a text that is none (the Voodoo paper, section 2).
-use Rattle.std.specs.Prelude.{◌≡◌, ℕ, ◌+◌, ◌<◌, ◌≤◌, ◌==◌, ◌&&◌, ◌||◌, Bool, true, false, not, nat_le, if◌then◌else◌, List, [], ◌∷◌, ◌++◌, length, take, slice_get}
+use Rattle.std.specs.Prelude.{◌≡◌, ℕ, ◌+◌, ◌<◌, ◌≤◌, ◌==◌, ◌&&◌, ◌||◌, Bool, true, false, not, nat_le, if◌then◌else◌, List, [], ◌∷◌, ◌++◌, length, take, drop, slice_get}
 use Rattle.std.specs.Prelude.{Option, Some, None, ⊤}
-use Rattle.std.specs.List.{list_all, suffix_len}
+use Rattle.std.specs.List.{list_all, slice_split, suffix_len}
+use Rattle.std.specs.Str.{bytes_eq}
 use Rattle.std.specs.Char.{is_ascii_alphabetic, is_ascii_alphanumeric}
 use Rattle.key_paths.specs.declared.refusal.PathKind.{PathKind}
 use Rattle.key_paths.specs.declared.refusal.PathKind.TheVariants.{NoDot, EmptySegment, SegmentTooLong, TooDeep, BadByte}
@@ -43,6 +44,20 @@ pub record IsPath (text : List ℕ) : Type 0 where
   pub few : length segments ≤ 8
   pub each : list_all is_segment segments ≡ true
   pub is : text ≡ path_text segments
+
+-- the segments that a path's text would have: what stands between its dots, and no segment in `.`
+abbrev pub nonempty_tail : List (List ℕ) → List (List ℕ)
+nonempty_tail ([] ∷ [] ∷ []) = []
+nonempty_tail parts = drop 1 parts
+
+abbrev pub segments_of : List ℕ → List (List ℕ)
+segments_of text = nonempty_tail (slice_split is_dot text)
+
+-- whether a text is a path, by those segments
+unfoldable pub is_path : List ℕ → Bool
+is_path text =
+    let segments = segments_of text in
+    nat_le (length segments) 8 && (list_all is_segment segments && bytes_eq text (path_text segments))
 
 -- a text with which some path begins
 pub record BeginsPath (text : List ℕ) : Type 0 where

@@ -15,6 +15,7 @@ pub mod refusal;
 
 pub use path::Path;
 pub use ranges::PathRange;
+pub use reading::is_path;
 pub use refusal::{PathKind, PathRefusal};
 
 /// Memory ran out: the one refusal of a call that only allocates.

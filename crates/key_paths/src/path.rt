@@ -47,6 +47,14 @@ impl Path {
         if let Some((at, kind)) = first_fault(text.as_bytes()) {
             return Err(PathRefusal::Bad { at, kind });
         }
+        Ok(Path::of(alloc, text)?)
+    }
+
+    /// The path that `text` spells, which is one. It fails only for want of memory.
+    pub fn of(alloc: Global, text: &str) -> Result<Path, NoMemory>
+        requires { IsPath text.now }
+        ensures { IfOk result (λ path. path ≡ text.now) }
+    {
         Ok(Path {
             text: String::from_str(alloc, text)?,
         })
@@ -82,11 +90,10 @@ impl Path {
 
     /// Another path with the same text.
     pub fn copied(&self, alloc: Global) -> Result<Path, NoMemory>
-        ensures { IfOk result (λ path. path ≡ self.now) }
+        ensures text { IfOk result (λ path. path ≡ self.now) }
+        ensures path { IsPath self.now }
     {
-        Ok(Path {
-            text: String::from_str(alloc, self.text.as_str())?,
-        })
+        Path::of(alloc, self.text.as_str())
     }
 }
 

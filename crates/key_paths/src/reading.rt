@@ -1,6 +1,6 @@
 //! How a text is read as a path, byte by byte.
-ghost use Rattle.std.specs.Prelude.{◌≡◌, ◌^◌, ◌<◌, length, MatchOption};
-ghost use Rattle.key_paths.specs.Paths.{IsPath, IsFault};
+ghost use Rattle.std.specs.Prelude.{◌≡◌, ◌^◌, ◌<◌, ◌↔◌, IsTrue, length, MatchOption};
+ghost use Rattle.key_paths.specs.Paths.{IsPath, IsFault, is_path};
 ghost use Rattle.key_paths.specs.Reading.{step_of, dot_step, first_step, inner_step, end_of};
 
 use crate::refusal::PathKind;
@@ -12,7 +12,7 @@ const MOST_SEGMENTS: u32 = 8;
 const LONGEST_SEGMENT: u32 = 64;
 
 /// How far a text has been read: how many segments have begun, and how many bytes the last one has.
-#[derive(Clone, Copy, Debug)]
+#[derive(Clone, Copy)]
 pub struct Reached {
     pub segments: u32,
     pub width: u32,
@@ -37,6 +37,18 @@ pub fn first_fault(text: &[u8]) -> Option<(u32, PathKind)>
     match end(reached) {
         Ok(()) => None,
         Err(kind) => Some((text.len() as u32, kind)),
+    }
+}
+
+/// Whether a text is a path.
+pub fn is_path(text: &[u8]) -> bool
+    requires { length text.now < 2 ^ 32 }
+    ensures test { result ≡ is_path text.now }
+    ensures path { IsTrue result ↔ IsPath text.now }
+{
+    match first_fault(text) {
+        None => true,
+        Some(_fault) => false,
     }
 }
 

@@ -4,12 +4,12 @@ use Rattle.std.specs.Prelude.{nat_eq}
 use Rattle.std.specs.List.{list_all, starts_with}
 use Rattle.std.specs.Ordering.{nat_cmp}
 use Rattle.std.specs.declared.cmp.Ordering.TheVariants.{Equal}
-use Rattle.std.proofs.lemmas.Bool.{false≢true}
+use Rattle.std.proofs.lemmas.Bool.{and_parts, false≢true}
 use Rattle.std.proofs.lemmas.Bool.Decides.{nat_tests}
 use Rattle.std.proofs.lemmas.List.Folds.{list_all-append}
 use Rattle.key_paths.specs.Paths.{is_dot, begins_segment, is_in_segment, is_segment, joined, path_text, IsPath}
 use Rattle.key_paths.specs.Substructures.{is_root, begins_segment_or_ends, is_at_or_below, is_before}
-use Rattle.key_paths.proofs.Orders.{and_parts, goes_on}
+use Rattle.key_paths.proofs.Orders.{goes_on}
 use Rattle.key_paths.proofs.Texts.{not_dot_from_begins, not_dot_from_inside}
 use Rattle.programs.specs.Mentions.{Label}
 use Rattle.programs.specs.Moves.{stem, path_of, moved, is_deep}

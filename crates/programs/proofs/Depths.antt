@@ -2,11 +2,11 @@
 use Rattle.std.proofs.Common.{◌≡◌, ℕ, ◌+◌, ◌*◌, ◌≤◌, true, false, ◌&&◌, List, [], ◌∷◌, ◌++◌, length, refl, sym, ap, ◌∙◌, arith, nat_lt, if◌then◌else◌, length-append}
 use Rattle.std.specs.Prelude.{All, nat_le}
 use Rattle.std.specs.List.{count_by, list_all, list_any}
+use Rattle.std.proofs.lemmas.Bool.{and_parts}
 use Rattle.std.proofs.lemmas.Bool.Decides.{nat_tests}
 use Rattle.std.proofs.lemmas.List.Sums.{sum_by-cons, sum_by-append}
 use Rattle.std.proofs.lemmas.List.Folds.{list_any_none}
 use Rattle.key_paths.specs.Paths.{is_dot, begins_segment, is_in_segment, is_segment, joined, path_text, IsPath}
-use Rattle.key_paths.proofs.Orders.{and_parts}
 use Rattle.key_paths.proofs.Texts.{not_dot_from_begins, not_dot_from_inside}
 use Rattle.programs.specs.Moves.{is_deep}
 

@@ -1,20 +1,18 @@
 -- Names, paths, numbers and signs in front of a text are read as the tokens that they are.
-use Rattle.std.proofs.Common.{◌≡◌, ℕ, ℤ, pos, negsuc, zero, suc, ◌^◌, ◌+◌, ◌-◌, ◌≤◌, ◌<◌, Bool, true, false, not, ◌&&◌, List, [], ◌∷◌, ◌++◌, length, take, drop, refl, ap, sym, ◌∙◌, subst, arith, append_assoc}
-use Rattle.std.specs.Prelude.{◌==◌, if◌then◌else◌, nat_le, slice_index}
+use Rattle.std.proofs.Common.{◌≡◌, ℕ, ◌+◌, ◌≤◌, ◌<◌, Bool, true, false, List, [], ◌∷◌, ◌++◌, length, drop, refl, ap, sym, ◌∙◌, arith, append_assoc}
+use Rattle.std.specs.Prelude.{◌==◌}
 use Rattle.std.specs.Char.{is_ascii_digit}
-use Rattle.std.specs.Fmt.{decimal, signed_decimal}
 use Rattle.std.specs.List.{list_all, prefix_len}
 use Rattle.std.proofs.lemmas.Bool.{and_parts, le-leb}
 use Rattle.std.proofs.lemmas.Bool.Decides.{nat_tests}
 use Rattle.std.proofs.lemmas.List.{take_at, drop_at, length-append}
-use Rattle.key_paths.specs.Paths.{is_dot, begins_segment, is_in_segment, is_segment, joined, path_text, IsPath}
+use Rattle.key_paths.specs.Paths.{is_dot, begins_segment, is_in_segment, is_segment, joined, path_text, IsPath, is_path}
 use Rattle.voodoo_text.specs.declared.kind.Kind.{Kind}
 use Rattle.voodoo_text.specs.declared.kind.Kind.TheVariants as k
-use Rattle.voodoo_text.specs.declared.lexis.Piece.{Piece}
-use Rattle.voodoo_text.specs.Values.{Bytes, is_path}
-use Rattle.voodoo_text.specs.Lexis.{is_blank, piece, name, path, path_kind, begins_name, begins_digits, goes_on, inner_len, after_dot_len, digits, minus, sign, front}
-use Rattle.voodoo_text.specs.Tokens.{Token, token, is_name, tokens_from, BeginsToken}
-use Rattle.voodoo_text.proofs.Forms.{begins_inside, segment_inside, segment_short, test_from_path}
+use Rattle.voodoo_text.specs.Values.{Bytes}
+use Rattle.voodoo_text.specs.Lexis.{is_blank, piece, path, path_kind, begins_name, inner_len, after_dot_len, sign, front}
+use Rattle.voodoo_text.specs.Tokens.{token, is_name, tokens_from, BeginsToken}
+use Rattle.key_paths.proofs.Forms.{segment_inside, segment_short, test_from_path}
 use Rattle.voodoo_text.proofs.Tokens.{tokens_go}
 
 -- ---- one token in front

@@ -1,6 +1,4 @@
 pub mod Options
-pub mod Bools
-pub mod Forms
 pub mod Numbers
 pub mod Tokens
 pub mod SameKinds

@@ -1,9 +1,9 @@
 -- A text is read line by line.
-use Rattle.std.proofs.Common.{◌≡◌, ℕ, suc, ◌+◌, ◌-◌, ◌<◌, ◌≤◌, Bool, true, false, not, List, [], ◌∷◌, ◌++◌, length, take, drop, get_or, refl, ap, sym, ◌∙◌, subst, arith, append_assoc, append-nil}
-use Rattle.std.specs.Prelude.{Result, Ok, Err, ◌==◌, if◌then◌else◌}
+use Rattle.std.proofs.Common.{◌≡◌, ℕ, ◌+◌, ◌<◌, ◌≤◌, Bool, true, false, not, List, [], ◌∷◌, ◌++◌, length, take, drop, get_or, refl, ap, sym, ◌∙◌, subst, arith, append_assoc, append-nil}
+use Rattle.std.specs.Prelude.{Result, Ok, Err, if◌then◌else◌}
 use Rattle.std.specs.Str.{IsUtf8, is_utf8}
 use Rattle.std.proofs.lemmas.Str.{is_utf8-from_IsUtf8, IsUtf8-from_is_utf8}
-use Rattle.std.specs.List.{All, slice_split, position_or_len}
+use Rattle.std.specs.List.{All, position_or_len}
 use Rattle.std.proofs.lemmas.Bool.{not-true}
 use Rattle.std.proofs.lemmas.List.{take_all}
 use Rattle.std.proofs.lemmas.List.Sums.{prefix_len_passes}
@@ -19,7 +19,7 @@ use Rattle.voodoo_text.specs.Values.{Bytes}
 use Rattle.voodoo_text.specs.Tokens.{Token, tokens}
 use Rattle.voodoo_text.specs.Statements.{line_of}
 use Rattle.voodoo_text.specs.Spelled.{CanBeSpelled, StatementHasNames}
-use Rattle.voodoo_text.specs.Reading.{is_feed, lines, read, refusal, with_statement, on_line, with_line, read_lines, read_text, onto, Gives}
+use Rattle.voodoo_text.specs.Reading.{is_feed, lines, read, with_statement, on_line, with_line, read_lines, read_text, onto, Gives}
 
 -- ---- the first line
 

@@ -1,8 +1,8 @@
 -- A program's text is read as that program, each statement on a line of its own.
-use Rattle.std.proofs.Common.{◌≡◌, ℕ, ℤ, pos, negsuc, suc, ◌^◌, ◌+◌, ◌-◌, ◌<◌, ◌≤◌, Bool, true, false, not, ◌&&◌, List, [], ◌∷◌, ◌++◌, length, map, lit<, refl, ap, sym, ◌∙◌, subst, arith, append_assoc, append-nil}
-use Rattle.std.specs.Prelude.{Option, Some, None, Result, Ok, Err, codes, neg_ℤ, ◌≤ℤ◌, nat_le, nat_lt, ◌==◌}
-use Rattle.std.specs.Fmt.{decimal, signed_decimal}
-use Rattle.std.specs.List.{list_all, flat_map, range_with_len}
+use Rattle.std.proofs.Common.{◌≡◌, ℕ, ℤ, pos, negsuc, ◌^◌, ◌+◌, ◌-◌, ◌<◌, true, false, not, List, [], ◌∷◌, ◌++◌, length, map, lit<, refl, ap, sym, ◌∙◌, arith, append_assoc, append-nil}
+use Rattle.std.specs.Prelude.{Some, Result, Ok, codes, neg_ℤ, ◌≤ℤ◌, nat_lt, ◌==◌}
+use Rattle.std.specs.Fmt.{signed_decimal}
+use Rattle.std.specs.List.{list_all, range_with_len}
 use Rattle.std.specs.Option.{option_map}
 use Rattle.std.specs.Str.{bytes_eq, IsAscii}
 use Rattle.std.proofs.lemmas.Bool.{and_parts, and_right, le-leb, ltb-true}
@@ -11,9 +11,9 @@ use Rattle.std.proofs.lemmas.Int.{ints}
 use Rattle.std.proofs.lemmas.List.Splits.{slice_split_at}
 use Rattle.std.proofs.lemmas.Str.{IsUtf8-from_ascii, IsAscii-append, is_utf8-from_IsUtf8}
 use Rattle.std.proofs.lemmas.Str.Ascii.{IsAscii-nil, IsAscii-cons}
-use Rattle.phrases.specs.Parsers.{and_then, pure, ◌>>=◌}
+use Rattle.phrases.specs.Parsers.{pure}
 use Rattle.control_vectors.specs.Controls.{Control, IsAdmissible}
-use Rattle.key_paths.specs.Paths.{is_segment, IsPath}
+use Rattle.key_paths.specs.Paths.{IsPath}
 use Rattle.programs.specs.declared.op.Size.{Size}
 use Rattle.programs.specs.declared.op.Operand.{Operand}
 use Rattle.programs.specs.declared.order_keys.OrderPath.{OrderPath}
@@ -36,15 +36,15 @@ use Rattle.voodoo_text.specs.Kinds.{same_kind}
 use Rattle.voodoo_text.specs.Values.{Bytes, is_start, admitted}
 use Rattle.voodoo_text.specs.Tokens.{Token, token, tokens_from, tokens}
 use Rattle.voodoo_text.specs.Operators.{operator_of}
-use Rattle.voodoo_text.specs.Places.{Parser, expect, name, path, size, operand, number, next}
+use Rattle.voodoo_text.specs.Places.{expect, name, path, size, operand}
 use Rattle.voodoo_text.specs.Statements as spec
 use Rattle.voodoo_text.specs.Statements.{arguments, statement, line_of}
 use Rattle.voodoo_text.specs.Canonical.{operator_word, pair_arguments, fold_arguments, rank_arguments, range_arguments, target, listed, call, statement_text, line, text_of}
 use Rattle.voodoo_text.specs.Canonical as canonical
-use Rattle.voodoo_text.specs.Spelled.{IsName, IsShift, HasNames, PairHasNames, RankHasNames, SizeHasName, OperandHasName, StatementHasNames, CanBeSpelled, InRange, PairInRange, FoldInRange, RankInRange, SizeInRange, OperandInRange, KeysInRange, HasRanges}
+use Rattle.voodoo_text.specs.Spelled.{IsName, IsShift, HasNames, PairHasNames, RankHasNames, SizeHasName, OperandHasName, CanBeSpelled, InRange, PairInRange, FoldInRange, RankInRange, SizeInRange, OperandInRange, KeysInRange, HasRanges}
 use Rattle.voodoo_text.specs.Reading.{is_feed, lines, read, on_line, with_statement, with_line, read_lines, read_text}
 use Rattle.voodoo_text.specs.Laws.{line_by_line, IsTextOf, TextLaws}
-use Rattle.voodoo_text.proofs.Bools.{all_both, none_passes, all_weaker}
+use Rattle.key_paths.proofs.Bools.{all_both, none_passes, all_weaker}
 use Rattle.voodoo_text.proofs.Numbers.{Within}
 use Rattle.voodoo_text.proofs.Lexing.{comma_ends, close_ends, name_ends, name_then, open_then, equal_then, comma_then, close_then}
 use Rattle.voodoo_text.proofs.Spelling.{is_plain, Listed, Others, nothing_more, one_more, first_one, and_made, keys_more, name_spells, path_spells, size_spells, operand_spells, integer_spells, natural_spells, plain_name}

@@ -4,12 +4,11 @@ use Rattle.std.specs.Prelude.{◌==◌, ◌||◌, nat_lt, Option, Some, Ok}
 use Rattle.std.specs.Char.{is_ascii_digit}
 use Rattle.std.specs.Fmt.{decimal, signed_decimal}
 use Rattle.std.specs.List.{list_all, flat_map}
-use Rattle.std.proofs.lemmas.Bool.{and_parts, and_from}
 use Rattle.std.proofs.lemmas.Bool.Decides.{nat_tests}
 use Rattle.std.proofs.lemmas.Int.{ints}
 use Rattle.std.proofs.lemmas.Fmt.{decimal_is_IsNumeral_wide}
 use Rattle.phrases.specs.Parsers.{and_then, pure, turns, ◌>>=◌}
-use Rattle.key_paths.specs.Paths.{is_dot, is_in_segment, is_segment, joined, path_text, IsPath}
+use Rattle.key_paths.specs.Paths.{is_dot, is_in_segment, is_segment, IsPath}
 use Rattle.programs.specs.declared.op.Size.{Size}
 use Rattle.programs.specs.declared.op.Size.TheVariants as sizes
 use Rattle.programs.specs.declared.op.Operand.{Operand}
@@ -22,8 +21,8 @@ use Rattle.voodoo_text.specs.Tokens.{Token, token, tokens_from}
 use Rattle.voodoo_text.specs.Places.{Parser, is, expect, name, path, number, operand, size, key, column, descends, another_key, keys, next}
 use Rattle.voodoo_text.specs.Canonical.{size_text, operand_text, key_text, after_comma, listed}
 use Rattle.voodoo_text.specs.Spelled.{IsName, SizeHasName, OperandHasName, SizeInRange, OperandInRange, KeysInRange}
-use Rattle.voodoo_text.proofs.Bools.{all_weaker, all_both}
-use Rattle.voodoo_text.proofs.Forms.{segment_inside, path_inside}
+use Rattle.key_paths.proofs.Bools.{all_weaker, all_both}
+use Rattle.key_paths.proofs.Forms.{segment_inside, path_inside}
 use Rattle.voodoo_text.proofs.Numbers.{Within, decimal_digits, natural_read, integer_read, digits_unsigned}
 use Rattle.voodoo_text.proofs.Lexing.{Ends, comma_ends, close_ends, name_ends, attached_then, path_then, digits_then, minus_then, comma_then, close_then, plus_then, sign_then}
 

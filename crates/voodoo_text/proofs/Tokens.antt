@@ -1,19 +1,19 @@
 -- The tokens of a line, one after the other, and the form of each.
-use Rattle.std.proofs.Common.{◌≡◌, ℕ, zero, suc, ◌+◌, ◌-◌, ◌≤◌, ◌<◌, Bool, true, false, List, [], ◌∷◌, length, take, drop, refl, ap, sym, ◌∙◌, arith}
+use Rattle.std.proofs.Common.{◌≡◌, ℕ, zero, suc, ◌+◌, ◌-◌, ◌≤◌, ◌<◌, Bool, true, false, List, [], ◌∷◌, length, take, drop, refl, ap, ◌∙◌, arith}
 use Rattle.std.specs.Prelude.{if◌then◌else◌, nat_le, ◌==◌, slice_index}
 use Rattle.std.specs.Char.{is_ascii_digit}
 use Rattle.std.specs.List.{list_all, prefix_len}
 use Rattle.std.proofs.lemmas.Bool.{and_from, leb-true, le-leb}
 use Rattle.std.proofs.lemmas.List.{take_rest}
 use Rattle.std.proofs.lemmas.List.Folds.{length-prefix_len}
-use Rattle.key_paths.specs.Paths.{is_dot, begins_segment, is_in_segment, is_segment}
+use Rattle.key_paths.specs.Paths.{is_dot, begins_segment, is_in_segment, is_path}
 use Rattle.voodoo_text.specs.declared.kind.Kind.{Kind}
 use Rattle.voodoo_text.specs.declared.kind.Kind.TheVariants as k
 use Rattle.voodoo_text.specs.declared.lexis.Piece.{Piece}
-use Rattle.voodoo_text.specs.Values.{Bytes, is_path}
+use Rattle.voodoo_text.specs.Values.{Bytes}
 use Rattle.voodoo_text.specs.Lexis.{is_blank, piece, name, path, path_kind, begins_digits, digits, minus, sign, front, after_dot_len}
 use Rattle.voodoo_text.specs.Tokens.{Token, token, is_name, tokens_from, HasForm, BeginsToken}
-use Rattle.voodoo_text.proofs.Forms.{begins_inside, path_from_test}
+use Rattle.key_paths.proofs.Forms.{begins_inside, path_from_test}
 
 pub tokens-drop : (after_name : Bool) (n : ℕ) (z : Bytes) → tokens_from after_name n z ≡ tokens_from after_name 0 (drop n z)
 tokens-drop after_name zero z = refl

@@ -1,5 +1,5 @@
 -- What each argument is printed as.
-use Rattle.std.specs.Prelude.{◌∷◌, ◌++◌}
+use Rattle.std.specs.Prelude.{◌++◌}
 use Rattle.std.specs.Fmt.{signed_decimal}
 use Rattle.voodoo_text.specs.declared.argument.Argument.{Argument}
 use Rattle.voodoo_text.specs.declared.argument.Argument.TheVariants.{Word, Attribute, Number}

@@ -1,5 +1,5 @@
 -- A program and its canonical text decide each other.
-use Rattle.std.specs.Prelude.{◌≡◌, ℕ, List, length, Ok}
+use Rattle.std.specs.Prelude.{◌≡◌, List, length, Ok}
 use Rattle.std.specs.List.{range_with_len}
 use Rattle.programs.specs.declared.op.Statement.{Statement}
 use Rattle.voodoo_text.specs.Values.{Bytes}

@@ -1,12 +1,12 @@
 -- What stands at the front of a line where no blank does: the longest token.
-use Rattle.std.specs.Prelude.{ℕ, ◌+◌, ◌==◌, ◌&&◌, ◌||◌, Bool, true, false, nat_le, if◌then◌else◌, List, [], ◌∷◌, take, drop, slice_index}
+use Rattle.std.specs.Prelude.{ℕ, ◌+◌, ◌==◌, ◌&&◌, ◌||◌, Bool, true, false, nat_le, if◌then◌else◌, [], ◌∷◌, take, drop, slice_index}
 use Rattle.std.specs.Char.{is_ascii_digit}
 use Rattle.std.specs.List.{prefix_len}
-use Rattle.key_paths.specs.Paths.{is_dot, begins_segment, is_in_segment}
+use Rattle.key_paths.specs.Paths.{is_dot, begins_segment, is_in_segment, is_path}
 use Rattle.voodoo_text.specs.declared.kind.Kind.{Kind}
 use Rattle.voodoo_text.specs.declared.kind.Kind.TheVariants as k
 use Rattle.voodoo_text.specs.declared.lexis.Piece.{Piece}
-use Rattle.voodoo_text.specs.Values.{Bytes, is_path}
+use Rattle.voodoo_text.specs.Values.{Bytes}
 
 -- space, tab, carriage return
 abbrev pub is_blank : ℕ → Bool

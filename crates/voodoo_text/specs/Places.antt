@@ -1,5 +1,5 @@
 -- What may stand in one place of a statement, as parsers that decide by the next token.
-use Rattle.std.specs.Prelude.{ℕ, ℤ, ◌^◌, ◌-◌, Bool, true, false, List, [], ◌∷◌, ◌++◌, length, Option, Some, None, Ok, Err, if◌then◌else◌}
+use Rattle.std.specs.Prelude.{◌^◌, ◌-◌, Bool, true, false, List, [], ◌∷◌, ◌++◌, length, Option, Some, None, Ok, Err, if◌then◌else◌}
 use Rattle.phrases.specs.Parsers as p
 use Rattle.phrases.specs.Parsers.{pure, either, repeat, ◌>>=◌, ◌>>◌}
 use Rattle.phrases.specs.declared.refusal.ReadError.TheVariants.{Refused}

@@ -1,5 +1,5 @@
 -- The statements, each on a line of its own, after the listings of the Voodoo paper, section 2.
-use Rattle.std.specs.Prelude.{ℤ, ◌^◌, ◌-◌, ◌&&◌, Bool, List, [], ◌∷◌, length, Option, Some, None, Result, Ok, Err, codes, if◌then◌else◌}
+use Rattle.std.specs.Prelude.{◌^◌, ◌-◌, ◌&&◌, Bool, List, [], ◌∷◌, length, Option, Some, None, Result, Ok, Err, codes, if◌then◌else◌}
 use Rattle.std.specs.Option.{option_map}
 use Rattle.std.specs.Str.{bytes_eq}
 use Rattle.phrases.specs.Parsers as p

@@ -3,7 +3,6 @@ use Rattle.std.specs.Prelude.{◌≡◌, IsTrue, ℕ, zero, suc, ◌-◌, ◌==�
 use Rattle.key_paths.specs.Paths.{is_segment, IsPath}
 use Rattle.voodoo_text.specs.declared.kind.Kind.{Kind}
 use Rattle.voodoo_text.specs.declared.kind.Kind.TheVariants as k
-use Rattle.voodoo_text.specs.declared.lexis.Piece.{Piece}
 use Rattle.voodoo_text.specs.Values.{Bytes}
 use Rattle.voodoo_text.specs.Lexis.{is_blank, front}
 

@@ -1,32 +1,16 @@
--- What one token spells: a path within its limits, a number within its range.
-use Rattle.std.specs.Prelude.{ℕ, ℤ, pos, negsuc, neg_ℤ, ◌^◌, ◌&&◌, Bool, nat_le, nat_lt, if◌then◌else◌, List, [], ◌∷◌, length, drop, Option, Some, None}
+-- What the digits of one token spell: a number within its range.
+use Rattle.std.specs.Prelude.{ℕ, ℤ, pos, negsuc, neg_ℤ, ◌^◌, ◌&&◌, Bool, nat_le, nat_lt, if◌then◌else◌, List, drop, Option, Some, None}
 use Rattle.std.specs.Char.{is_ascii_digit}
-use Rattle.std.specs.List.{list_all, slice_split}
+use Rattle.std.specs.List.{list_all}
 use Rattle.std.specs.Option.{option_map}
-use Rattle.std.specs.Str.{bytes_eq}
 use Rattle.std.specs.Str.Parse.{digits_value, starts_with_minus}
 use Rattle.control_vectors.specs.Controls.{Control, control_of}
-use Rattle.key_paths.specs.Paths.{is_dot, is_segment, path_text}
 
 abbrev pub Bytes : Type 0
 Bytes = List ℕ
 
 abbrev pub only_if : {A : Type 0} → Bool → A → Option A
 only_if test a = if test then Some a else None
-
--- the segments that a path's text would have: what stands between its dots, and no segment in `.`
-abbrev pub nonempty_tail : List Bytes → List Bytes
-nonempty_tail ([] ∷ [] ∷ []) = []
-nonempty_tail parts = drop 1 parts
-
-abbrev pub segments_of : Bytes → List Bytes
-segments_of word = nonempty_tail (slice_split is_dot word)
-
--- at most 8 segments, each with its form
-unfoldable pub is_path : Bytes → Bool
-is_path word =
-    let segments = segments_of word in
-    nat_le (length segments) 8 && (list_all is_segment segments && bytes_eq word (path_text segments))
 
 -- decimal digits whose value is at most `most`
 abbrev pub digits_within : ℕ → Bytes → Option ℕ

@@ -12,7 +12,7 @@ use itoa::Buffer;
 use programs::{Operand, OrderPath, Size};
 
 /// What stands between two commas: a word, a vector's name directly followed by a path, or a number.
-#[derive(Clone, Copy, Debug)]
+#[derive(Clone, Copy)]
 pub enum Argument<'a> {
     Word(&'a str),
     Attribute(&'a str, &'a str),

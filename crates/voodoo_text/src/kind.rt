@@ -6,7 +6,7 @@ ghost use Rattle.voodoo_text.specs.Kinds as spec;
 use crate::refusal::TextKind;
 
 /// What a token is.
-#[derive(Clone, Copy, Debug, PartialEq, Eq)]
+#[derive(Clone, Copy, PartialEq, Eq)]
 pub enum Kind {
     /// A letter or `_`, then letters, digits and `_`, at most 64 bytes.
     Name,

@@ -5,16 +5,15 @@ ghost use Rattle.std.specs.Char.{is_ascii_digit};
 ghost use Rattle.std.specs.List.{prefix_len};
 ghost use Rattle.key_paths.specs.Paths.{begins_segment as may_begin, is_in_segment as may_follow};
 ghost use Rattle.voodoo_text.specs.Lexis as spec;
-ghost use Rattle.voodoo_text.specs.Values as values;
 
 use crate::kind::Kind;
-use key_paths::reading::first_fault;
+use key_paths::is_path;
 
 /// How many bytes a name has at most.
 const LONGEST_NAME: usize = 64;
 
 /// A token's kind, and how many bytes it takes.
-#[derive(Clone, Copy, Debug)]
+#[derive(Clone, Copy)]
 pub struct Piece {
     pub kind: Kind,
     pub len: usize,
@@ -107,17 +106,6 @@ fn after_dot_len(z: &[u8]) -> usize
     ensures within { result ≤ length z.now }
 {
     if begins_name(z) { inner_len(z) } else { 0 }
-}
-
-/// Whether a text is a path.
-fn is_path(text: &[u8]) -> bool
-    requires { length text.now < 2 ^ 32 }
-    ensures { result ≡ values.is_path text.now }
-{
-    match first_fault(text) {
-        None => true,
-        Some(_fault) => false,
-    }
 }
 
 /// A name.

@@ -11,7 +11,7 @@ use crate::lexis::{front, is_blank};
 use std::marker::Model;
 
 /// A token, and its bytes.
-#[derive(Clone, Copy, Debug)]
+#[derive(Clone, Copy)]
 pub struct Token<'a> {
     pub kind: Kind,
     pub word: &'a [u8],

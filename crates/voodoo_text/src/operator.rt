@@ -7,7 +7,7 @@ ghost use Rattle.voodoo_text.specs.Spelled.{IsName, HasNames, PairHasNames, Rank
 use programs::{FoldArgs, Op, PairArgs, RankArgs};
 
 /// An operator that works slot by slot on two operands.
-#[derive(Clone, Copy, Debug)]
+#[derive(Clone, Copy)]
 pub enum PairOperator {
     Add,
     Subtract,
@@ -22,7 +22,7 @@ pub enum PairOperator {
 }
 
 /// An operator that folds values in runs.
-#[derive(Clone, Copy, Debug)]
+#[derive(Clone, Copy)]
 pub enum FoldOperator {
     Sum,
     Min,
@@ -32,14 +32,14 @@ pub enum FoldOperator {
 }
 
 /// An operator that ranks keys among pivots.
-#[derive(Clone, Copy, Debug)]
+#[derive(Clone, Copy)]
 pub enum RankOperator {
     Bucket,
     Partition,
 }
 
 /// An operator that shares its arguments with no other one.
-#[derive(Clone, Copy, Debug)]
+#[derive(Clone, Copy)]
 pub enum SingleOperator {
     Load,
     Cross,
@@ -55,7 +55,7 @@ pub enum SingleOperator {
 }
 
 /// What makes a vector. A Persist makes none.
-#[derive(Clone, Copy, Debug)]
+#[derive(Clone, Copy)]
 pub enum Operator {
     Range,
     Single(SingleOperator),

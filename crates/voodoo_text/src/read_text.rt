@@ -17,7 +17,7 @@ use std::alloc::Global;
 use std::marker::Model;
 
 /// The lines of statements, counted from 1. Contracts see the list of them.
-#[derive(Debug, Drop)]
+#[derive(Drop)]
 pub struct LineNumbers {
     numbers: Vec<u32>,
 }
@@ -47,7 +47,7 @@ impl LineNumbers {
 }
 
 /// A program, and the line on which each of its statements stands.
-#[derive(Debug, Drop)]
+#[derive(Drop)]
 pub struct ReadProgram {
     pub program: Program,
     pub lines: LineNumbers,

@@ -1,6 +1,7 @@
 //! What the word of a token spells.
 
 ghost use Rattle.std.specs.Prelude.{◌≡◌, ◌≤◌, ◌<◌, ◌≤ℤ◌, ◌^◌, pos, neg_ℤ, drop, IfOk, IfSome, IsTrue};
+ghost use Rattle.std.specs.Str.{IsUtf8};
 ghost use Rattle.std.specs.Str.Parse.{starts_with_minus};
 ghost use Rattle.key_paths.specs.Paths.{is_segment, IsPath};
 ghost use Rattle.voodoo_text.specs.Values as spec;
@@ -9,39 +10,35 @@ use crate::NoMemory;
 use control_vectors::ControlVector;
 use io_edge::Name;
 use key_paths::Path;
-use std::alloc::{AllocError, Global};
+use std::alloc::Global;
+
+/// The text that a word is.
+fn text(word: &[u8]) -> &str
+    requires { IsUtf8 word.now }
+    ensures { result.now ≡ word.now }
+{
+    match str::from_utf8(word) {
+        Ok(text) => text,
+        Err(_) => unreachable!(),
+    }
+}
 
 /// The name that a word is.
+#[tactic(auto, using(key_paths::proofs::Forms::segment_utf8))]
 pub(crate) fn name(alloc: Global, word: &[u8]) -> Result<Name, NoMemory>
     requires { IsTrue (is_segment word.now) }
     ensures { IfOk result (λ n. n ≡ word.now) }
 {
-    match str::from_utf8(word) {
-        Ok(text) => Name::of(alloc, text),
-        Err(_) => Err(AllocError),
-    }
+    Name::of(alloc, text(word))
 }
 
 /// The path that a word is.
+#[tactic(auto, using(key_paths::proofs::Forms::path_utf8))]
 pub(crate) fn path(alloc: Global, word: &[u8]) -> Result<Path, NoMemory>
     requires { IsPath word.now }
     ensures { IfOk result (λ p. p ≡ word.now) }
 {
-    match str::from_utf8(word) {
-        Ok(text) => path_of_text(alloc, text),
-        Err(_) => Err(AllocError),
-    }
-}
-
-/// The path that a text is.
-fn path_of_text(alloc: Global, text: &str) -> Result<Path, NoMemory>
-    requires { IsPath text.now }
-    ensures { IfOk result (λ p. p ≡ text.now) }
-{
-    match Path::read(alloc, text) {
-        Ok(path) => Ok(path),
-        Err(_) => Err(AllocError),
-    }
+    Path::of(alloc, text(word))
 }
 
 /// The number that digits spell, up to `most`.

@@ -3,7 +3,7 @@ use Rattle.std.proofs.lemmas.Grind.{common_steps}
 use Rattle.phrases.specs.Parsers.{turns}
 use Rattle.phrases.proofs.Shapes.{one_more, no_more}
 use Rattle.voodoo_text.specs.declared.kind.Kind.TheVariants as k
-use Rattle.voodoo_text.specs.Places.{is, keys, another_key}
+use Rattle.voodoo_text.specs.Places.{is, another_key}
 use Rattle.voodoo_text.proofs.places.keys.Goals as goal
 
 pub returns-then-not-is_next : goal.returns-then-not-is_next

@@ -1,4 +1,4 @@
-use Rattle.std.proofs.Common.{◌≤◌, ◌+◌, length, arith}
+use Rattle.std.proofs.Common.{arith}
 use Rattle.voodoo_text.proofs.read_text.read_lines.Goals as goal
 
 pub take_line-requires : goal.take_line-requires

@@ -1,4 +1,4 @@
-use Rattle.std.proofs.Common.{◌≤◌, length, subst, arith}
+use Rattle.std.proofs.Common.{arith}
 use Rattle.std.proofs.lemmas.Grind.{common_steps}
 use Rattle.voodoo_text.proofs.Tokens.{tokens_few}
 use Rattle.voodoo_text.proofs.line.Line.ahead.Goals as goal

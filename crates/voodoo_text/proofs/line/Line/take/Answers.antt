@@ -1,6 +1,6 @@
-use Rattle.std.proofs.Common.{◌≡◌, ◌<◌, length, ◌∙◌, take, subst, sym, ap, arith}
+use Rattle.std.proofs.Common.{◌<◌, length, ◌∙◌, take, subst, sym, arith}
 use Rattle.std.proofs.lemmas.Grind.{common_steps}
-use Rattle.voodoo_text.specs.Tokens.{token, tokens_from, HasForm}
+use Rattle.voodoo_text.specs.Tokens.{HasForm}
 use Rattle.voodoo_text.specs.declared.lexis.Piece.{Piece}
 use Rattle.voodoo_text.proofs.Tokens.{taken, front_formed}
 use Rattle.voodoo_text.proofs.line.Line.take.Goals as goal
