@@ -73,6 +73,7 @@ impl Shelf for MemoryShelf {
         ensures failed { result ≡ Err OpenRefusal.Failed → Rose self.old.faults self.new.faults }
         ensures missing { result ≡ Err OpenRefusal.Missing → file_of self.old.files name.now ≡ None }
         ensures no_fault { result ≡ Err OpenRefusal.Missing → self.new.faults ≡ self.old.faults }
+        ensures stands { OnOk result (self.new.faults ≡ self.old.faults) }
     {
         if self.plan.next_fails() {
             self.files.close();
@@ -94,6 +95,7 @@ impl Shelf for MemoryShelf {
         ensures count { IfOk result (λ k. k ≡ min (length into.old) (length self.old.left)) }
         ensures bytes { ReadConsumes (Some self.old.left) (Some self.new.left) result into.new }
         ensures cause { HasCause self.old.faults self.new.faults result }
+        ensures stands { OnOk result (self.new.faults ≡ self.old.faults) }
     {
         if self.plan.next_fails() {
             return Err(Failed);
@@ -176,6 +178,7 @@ impl Sink for MemorySink {
         ensures count { IfOk result (λ k. k ≡ min (min (length piece.now) self.old.most) (self.old.room - length self.old.bytes)) }
         ensures bytes { WriteAppends (Some self.old.bytes) (Some self.new.bytes) result piece.now }
         ensures cause { HasCause self.old.faults self.new.faults result }
+        ensures stands { OnOk result (self.new.faults ≡ self.old.faults) }
         ensures calls { self.new.calls ≡ next_count self.old.calls }
         ensures fails { IsErr result ↔ (Contains self.old.fails self.new.calls
             ⊎ (0 < length piece.now × (self.old.room ≤ length self.old.bytes))) }

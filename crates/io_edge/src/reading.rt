@@ -1,8 +1,9 @@
 //! A file read whole.
 
-ghost use Rattle.std.specs.Prelude.{◌≡◌, ◌≤◌, ◌<◌, ◌+◌, ◌^◌, ◌⊎◌, length, IfOk, IfSome, vec_len, Err, Some};
+ghost use Rattle.std.specs.Prelude.{◌≡◌, ◌≤◌, ◌<◌, ◌+◌, ◌^◌, ◌⊎◌, length, IfOk, IfSome, OnOk, vec_len, Err, Some};
+ghost use Rattle.std.specs.Io.KnownBytes.{IsAtEnd};
 ghost use Rattle.io_edge.specs.Faults.{Rose};
-ghost use Rattle.io_edge.specs.Shelves.{Lacks, IsLonger};
+ghost use Rattle.io_edge.specs.Shelves.{HasTaken, IsLonger, Lacks};
 
 use crate::{Failed, NoMemory, Shelf};
 use std::alloc::{AllocError, Global};
@@ -23,8 +24,8 @@ const PIECE: usize = 65536;
 
 /// All bytes of the file of that name, of which there are at most `limit`.
 ///
-/// At most one byte more than the limit is taken. Where the shelf tells what it holds, `Ok` gives
-/// the file's bytes, and `TooLong` comes for a longer file alone. `ReadFault` comes only where the
+/// Where the shelf tells what it holds, `Ok` gives the file's bytes, of which none is left, and
+/// `TooLong` comes for a longer file alone, of which one byte more than the limit was taken. `ReadFault` comes only where the
 /// shelf's count of faults rose, or where it tells that it lacks the file.
 pub fn read_all<S: Shelf>(
     alloc: Global,
@@ -37,8 +38,10 @@ pub fn read_all<S: Shelf>(
 
     ensures whole { IfOk result (λ v. IfSome (S.holds shelf.old) (λ files. files name.now ≡ Some v.items)) }
     ensures short { IfOk result (λ v. vec_len v ≤ limit) }
+    ensures ended { OnOk result (IsAtEnd (S.left shelf.new)) }
 
     ensures long { result ≡ Err ReadRefusal.TooLong → IfSome (S.holds shelf.old) (λ files. IsLonger (files name.now) limit) }
+    ensures one_more { result ≡ Err ReadRefusal.TooLong → IfSome (S.holds shelf.old) (λ files. HasTaken (files name.now) (S.left shelf.new) (limit + 1)) }
     ensures fault { result ≡ Err ReadRefusal.ReadFault → Rose (S.faults shelf.old) (S.faults shelf.new) ⊎ Lacks (S.holds shelf.old) name.now }
 {
     if shelf.open_file(name).is_err() {
@@ -71,8 +74,10 @@ fn read_open<S: Shelf>(
 
     ensures whole { IfOk result (λ v. IfSome (S.left shelf.old) (λ bytes. bytes ≡ v.items)) }
     ensures short { IfOk result (λ v. vec_len v ≤ limit) }
+    ensures ended { OnOk result (IsAtEnd (S.left shelf.new)) }
 
     ensures long { result ≡ Err ReadRefusal.TooLong → IfSome (S.left shelf.old) (λ bytes. limit < length bytes) }
+    ensures one_more { result ≡ Err ReadRefusal.TooLong → HasTaken (S.left shelf.old) (S.left shelf.new) (limit + 1) }
     ensures fault { result ≡ Err ReadRefusal.ReadFault → Rose (S.faults shelf.old) (S.faults shelf.new) }
 {
     let most = limit as usize + 1;

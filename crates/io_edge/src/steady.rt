@@ -1,6 +1,6 @@
 //! A shelf and a sink in memory that never fail while there is room.
 
-ghost use Rattle.std.specs.Prelude.{◌≡◌, ◌≤◌, ◌<◌, ◌↔◌, ◌-◌, min, [], length, map, IsErr, IfOk, Some};
+ghost use Rattle.std.specs.Prelude.{◌≡◌, ◌≤◌, ◌<◌, ◌↔◌, ◌-◌, min, [], length, map, IsErr, IfOk, OnOk, Some};
 ghost use Rattle.std.specs.Io.KnownBytes.{WriteAppends};
 ghost use Rattle.io_edge.specs.Faults.{HasCause};
 ghost use Rattle.io_edge.specs.Files.{file_of, named_file};
@@ -106,6 +106,7 @@ impl Sink for SteadySink {
         ensures count { IfOk result (λ k. k ≡ min (length piece.now) (self.old.room - length self.old.bytes)) }
         ensures bytes { WriteAppends (Some self.old.bytes) (Some self.new.bytes) result piece.now }
         ensures cause { HasCause self.old.faults self.new.faults result }
+        ensures stands { OnOk result (self.new.faults ≡ self.old.faults) }
         ensures fails { IsErr result ↔ (0 < length piece.now × (self.old.room ≤ length self.old.bytes)) }
         ensures steady { length self.new.bytes < self.new.room → self.new.faults ≡ 0 }
         ensures same_room { self.new.room ≡ self.old.room }
