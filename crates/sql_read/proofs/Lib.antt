@@ -4,3 +4,5 @@ pub mod GoodSchema
 pub mod Semicolons
 pub mod Sound
 pub mod SchemaLaws
+pub mod NameLaws
+pub mod FormLaws

@@ -4,4 +4,5 @@ pub mod Tokens
 pub mod Schema
 pub mod SchemaParsers
 pub mod SchemaText
+pub mod Forms
 pub mod Reserved

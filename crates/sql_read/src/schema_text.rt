@@ -2,8 +2,10 @@
 
 ghost use Rattle.std.specs.Prelude.{◌≡◌, ◌≢◌, ◌-◌, ◌<◌, ◌^◌, List, length, drop, Ok, Err, IfOk, IfErr, MatchResult};
 ghost use Rattle.std.specs.Str.{IsUtf8};
+ghost use Rattle.std.specs.List.{All};
 ghost use Rattle.phrases.specs.Parsers.{ended, Ends};
 ghost use Rattle.sql_read.specs.SchemaParsers as parsers;
+ghost use Rattle.sql_read.specs.Forms.{IsFormed};
 ghost use Rattle.sql_read.specs.SchemaText.{schema_of, read_tokens, schema_tokens, refusal_at, own_kind, kind_at, place_of, IsSchema, IsRefusal};
 ghost use Rattle.sql_read.specs.declared.definition.TableDef.{TableDef as Definition};
 ghost use Rattle.sql_read.specs.declared.refusal.SqlRefusal.TheVariants.{NoMemory};
@@ -109,6 +111,8 @@ pub fn read_schema(alloc: Global, bytes: &[u8]) -> Result<Vec<TableDef>, SqlRefu
     requires { length bytes.now < 2 ^ 32 }
     // What is read is a schema with those definitions.
     ensures found { IfOk result (λ v. IsSchema bytes.now v.items) }
+    // Its tables and columns are named by words, and each table has a column or a key.
+    ensures formed { IfOk result (λ v. All IsFormed v.items) }
     // A schema is read, and as no other definitions, unless memory runs out.
     ensures only { (defs : List Definition) → IsSchema bytes.now defs → MatchResult result (λ v. v.items ≡ defs) (λ e. e ≡ NoMemory) }
     // What is refused is refused at its first refusal.
