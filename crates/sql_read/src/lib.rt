@@ -21,6 +21,3 @@ pub use refusal::{SqlKind, SqlRefusal};
 pub use schema_text::{read_schema, refused_for_itself};
 pub use token_list::{Token, tokens};
 pub use words::{extent, name_at};
-
-#[cfg(test)]
-mod tests;

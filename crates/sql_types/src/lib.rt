@@ -8,6 +8,3 @@ mod rules;
 
 pub use catalog_of_schema::Catalog;
 pub use refusal::{SchemaKind, SchemaRefusal};
-
-#[cfg(test)]
-mod tests;
