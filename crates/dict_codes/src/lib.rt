@@ -4,6 +4,3 @@
 mod dictionary;
 
 pub use dictionary::Dictionary;
-
-#[cfg(test)]
-mod tests;

@@ -22,8 +22,3 @@ pub use database::{Database, finish};
 pub use loading::load;
 pub use raw::RawTable;
 pub use refusal::{DataKind, DataRefusal};
-
-#[cfg(test)]
-mod finish_tests;
-#[cfg(test)]
-mod tests;
