@@ -4,5 +4,6 @@ pub mod GoodSchema
 pub mod Semicolons
 pub mod Sound
 pub mod SchemaLaws
+mod Examples
 pub mod NameLaws
 pub mod FormLaws

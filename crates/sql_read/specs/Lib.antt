@@ -6,3 +6,4 @@ pub mod SchemaParsers
 pub mod SchemaText
 pub mod Forms
 pub mod Reserved
+pub mod Examples

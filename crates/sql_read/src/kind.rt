@@ -7,7 +7,7 @@ ghost use Rattle.sql_read.specs.Kinds.{same_kind as same_kind_lem};
 ghost use Rattle.sql_read.specs.Reserved.{reserved_words};
 
 /// What a token is. A word that is reserved has a kind of its own; every other word is a [`Kind::Name`].
-#[derive(Clone, Copy, Debug, PartialEq, Eq)]
+#[derive(Clone, Copy, PartialEq, Eq)]
 pub enum Kind {
     /// Blanks, or a comment: no token of the list.
     Blank,

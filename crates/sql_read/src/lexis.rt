@@ -6,7 +6,7 @@ ghost use Rattle.sql_read.specs.Lexis as spec;
 use crate::kind::{Kind, word_kind};
 
 /// A kind, a length in bytes, and the value of an integer (0 for every other kind).
-#[derive(Clone, Copy, Debug)]
+#[derive(Clone, Copy)]
 pub struct Piece {
     pub kind: Kind,
     pub len: usize,
@@ -14,7 +14,7 @@ pub struct Piece {
 }
 
 /// Bytes that stand in a row.
-#[derive(Clone, Copy, Debug)]
+#[derive(Clone, Copy)]
 enum Class {
     Blank,
     Digit,

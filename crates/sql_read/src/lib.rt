@@ -5,6 +5,7 @@ mod definition;
 mod expecting;
 mod fault;
 mod kind;
+pub mod laws;
 mod lexis;
 mod listing;
 mod refusal;

@@ -17,7 +17,7 @@ use phrases::{Cursor, ReadError};
 use std::alloc::{AllocError, Global};
 
 /// The type of a column.
-#[derive(Clone, Copy, Debug)]
+#[derive(Clone, Copy)]
 pub struct ColumnType {
     kind: ColumnKind,
     width: u32,
@@ -25,21 +25,21 @@ pub struct ColumnType {
 }
 
 /// A column so far, and the keys of its table so far.
-#[derive(Debug, Drop)]
+#[derive(Drop)]
 pub struct Draft {
     column: ColumnDef,
     keys: Listing<KeyDef>,
 }
 
 /// The columns and keys of a table so far.
-#[derive(Debug, Drop)]
+#[derive(Drop)]
 pub struct Parts {
     columns: Listing<ColumnDef>,
     keys: Listing<KeyDef>,
 }
 
 /// The tables so far, and whether the last semicolon stands behind them.
-#[derive(Debug, Drop)]
+#[derive(Drop)]
 pub struct Run {
     pub tables: Listing<TableDef>,
     closed: bool,

@@ -8,7 +8,7 @@ use crate::lexis::{Piece, front};
 use std::alloc::{AllocError, Global};
 
 /// A token of a text, and where it stands.
-#[derive(Clone, Copy, Debug)]
+#[derive(Clone, Copy)]
 pub struct Token {
     pub kind: Kind,
     /// The token's first byte, counted from 0.
