@@ -51,4 +51,4 @@ pub value_In : (on : On) (p : Polarity) (x : TypedExpr) (ys : List TypedExpr) â†
 value_In on p x ys = ap (value on) (sym (rolls-In p x ys)) âˆ™ value_roll on (TypedExpr-F.In p x ys)
 
 pub whole : WholeTable
-whole = simp (value_Number, value_Text, value_Date, value_Column, value_Aggregate, value_Signed, value_Not, value_Binary, value_Divide, value_Between, value_In) refl
+whole = simp (value_Number, value_Column, value_Not, value_Binary, value_Divide, value_Between, value_In) refl

@@ -7,7 +7,7 @@ use Rattle.typed_trees.specs.declared.typed.TypedExpr.TheOpen.{TypedExpr-F}
 use Rattle.typed_trees.specs.declared.typed.TypedExpr.TheFolds.{fold-roll-TypedExpr}
 use Rattle.typed_trees.specs.declared.typed.TypedExpr.TheVariants as e
 use Rattle.typed_trees.specs.declared.typed.TypedExpr.TheVariants.{rolls-In}
-use Rattle.typed_values.specs.Bounds.{Bounds, form_bounds, bounds, tested, truth_if}
+use Rattle.typed_values.specs.Narrow.{Bounds, form_bounds, bounds, tested, truth_if}
 
 all-map : (ys : List TypedExpr) → list_all (λ (b : Bounds). is_some b) (map bounds ys) ≡ list_all (λ y. is_some (bounds y)) ys
 all-map [] = refl

@@ -1,29 +1,18 @@
 -- The interval rule: an expression cannot overflow where the interval of each of its parts lies within -2^127 to 2^127 - 1.
-use Rattle.std.specs.Prelude.{ℤ, pos, Bool, true, false, if◌then◌else◌, List, Option, Some, None, is_some}
+use Rattle.std.specs.Prelude.{ℤ, pos, Bool, true, false, ◌&&◌, if◌then◌else◌, List, [], ◌∷◌, ◌++◌, flat_map, Option, Some, None}
 use Rattle.std.specs.List.{list_all}
+use Rattle.std.specs.Option.{option_map}
+use Rattle.control_vectors.specs.Slots.{fits_128}
 use Rattle.query_trees.specs.declared.expr.BinaryOp.{BinaryOp}
 use Rattle.query_trees.specs.declared.expr.BinaryOp.TheVariants as op
-use Rattle.query_trees.specs.declared.expr.Sign.{Sign}
 use Rattle.typed_trees.specs.declared.typed.TypedExpr.{TypedExpr}
+use Rattle.typed_trees.specs.declared.typed.TypedExpr.TheVariants as e
 use Rattle.typed_trees.specs.declared.typed.TypedExpr.TheOpen.{TypedExpr-F}
-use Rattle.typed_trees.specs.declared.typed.TypedExpr.TheFolds.{fold-TypedExpr}
+use Rattle.typed_trees.specs.declared.typed.TypedExpr.TheFolds.{fold-TypedExpr, para-TypedExpr}
 use Rattle.typed_values.specs.declared.intervals.Interval.{Interval}
-use Rattle.typed_values.specs.Intervals.{interval, of_kind, literal, signed_interval, combined_interval, quotient_interval, divisor}
+use Rattle.typed_values.specs.Intervals.{interval, of_kind, truth, point, signed, signed_interval, combined_interval, quotient_interval, is_zero}
 
--- an expression's interval, none where that of a part leaves 128 bits
-abbrev pub Bounds : Type 0
-Bounds = Option Interval
-
-abbrev pub truth : Interval
-truth = interval (pos 0) (pos 1)
-
-abbrev pub signed : Sign → Bounds → Bounds
-signed s None = None
-signed s (Some a) = signed_interval s a
-
-abbrev pub negated : Bounds → Bounds
-negated None = None
-negated (Some a) = Some truth
+-- ---- the least and the greatest that an expression can be
 
 abbrev pub is_arithmetic : BinaryOp → Bool
 is_arithmetic op.Add = true
@@ -31,41 +20,66 @@ is_arithmetic op.Subtract = true
 is_arithmetic op.Multiply = true
 is_arithmetic o = false
 
-abbrev pub joined : BinaryOp → Bounds → Bounds → Bounds
-joined o (Some a) (Some b) = if is_arithmetic o then combined_interval o a b else Some truth
-joined o a b = None
+abbrev pub combined_intervals : BinaryOp → Option Interval → Option Interval → Option Interval
+combined_intervals o (Some a) (Some b) = Some (combined_interval o a b)
+combined_intervals o a b = None
 
-abbrev pub divided : Bounds → Option ℤ → Bounds
-divided (Some a) (Some d) = quotient_interval a d
-divided a d = None
+abbrev pub joined : BinaryOp → Option Interval → Option Interval → Option Interval
+joined o a b = if is_arithmetic o then combined_intervals o a b else Some truth
 
--- a truth of two parts
-abbrev pub tested : Bounds → Bounds → Bounds
-tested (Some a) (Some b) = Some truth
-tested a b = None
+-- a quotient by 0 has none
+abbrev pub divided : Option Interval → ℤ → Option Interval
+divided a d = if is_zero d then None else option_map (λ i. quotient_interval i d) a
 
-abbrev pub truth_if : Bool → Bounds
-truth_if true = Some truth
-truth_if false = None
+abbrev pub form_interval : TypedExpr-F (Option Interval) → Option Interval
+form_interval (TypedExpr-F.Number n) = Some (point (pos n))
+form_interval (TypedExpr-F.Text t) = Some (interval (pos 0) (pos 4294967295))
+form_interval (TypedExpr-F.Date day) = Some (point day)
+form_interval (TypedExpr-F.Column c kind) = Some (of_kind kind)
+form_interval (TypedExpr-F.Aggregate n) = None
+form_interval (TypedExpr-F.Signed s a) = option_map (signed_interval s) a
+form_interval (TypedExpr-F.Not a) = Some truth
+form_interval (TypedExpr-F.Binary o a b) = joined o a b
+form_interval (TypedExpr-F.Divide a s n) = divided a (signed s (pos n))
+form_interval (TypedExpr-F.Between p a b c) = Some truth
+form_interval (TypedExpr-F.In p a bs) = Some truth
 
-abbrev pub all_bounded : List Bounds → Bounds
-all_bounded bs = truth_if (list_all (λ b. is_some b) bs)
+-- an aggregate has none, and neither has arithmetic over one
+unfoldable pub interval_of : TypedExpr → Option Interval
+interval_of = fold-TypedExpr (Option Interval) form_interval
 
-abbrev pub form_bounds : TypedExpr-F Bounds → Bounds
-form_bounds (TypedExpr-F.Number n) = literal n
-form_bounds (TypedExpr-F.Text t) = Some (interval (pos 0) (pos 4294967295))
-form_bounds (TypedExpr-F.Date day) = Some (interval day day)
-form_bounds (TypedExpr-F.Column c kind) = Some (of_kind kind)
-form_bounds (TypedExpr-F.Aggregate n) = None
-form_bounds (TypedExpr-F.Signed s a) = signed s a
-form_bounds (TypedExpr-F.Not a) = negated a
-form_bounds (TypedExpr-F.Binary o a b) = joined o a b
-form_bounds (TypedExpr-F.Divide a s n) = divided a (divisor s n)
-form_bounds (TypedExpr-F.Between p a b c) = tested a (tested b c)
-form_bounds (TypedExpr-F.In p a bs) = tested a (all_bounded bs)
+-- ---- the parts of an expression: its operands' parts, the number that it divides by, and it itself
 
-unfoldable pub bounds : TypedExpr → Bounds
-bounds = fold-TypedExpr Bounds form_bounds
+-- an operand, with the parts below it
+abbrev pub Operand : Type 0
+Operand = TypedExpr × List TypedExpr
+
+abbrev pub part : Operand → List TypedExpr
+part x = x.1 ++ x.0 ∷ []
+
+abbrev pub form_below : TypedExpr-F Operand → List TypedExpr
+form_below (TypedExpr-F.Signed s x) = part x
+form_below (TypedExpr-F.Not x) = part x
+form_below (TypedExpr-F.Binary o x y) = part x ++ part y
+form_below (TypedExpr-F.Divide x s n) = part x ++ e.Number n ∷ []
+form_below (TypedExpr-F.Between p x y z) = part x ++ (part y ++ part z)
+form_below (TypedExpr-F.In p x ys) = part x ++ flat_map part ys
+form_below form = []
+
+unfoldable pub parts_below : TypedExpr → List TypedExpr
+parts_below = para-TypedExpr (List TypedExpr) form_below
+
+abbrev pub parts : TypedExpr → List TypedExpr
+parts x = part (x, parts_below x)
+
+-- ---- the rule
+
+abbrev pub lies_within : Option Interval → Bool
+lies_within (Some i) = fits_128 i.least && fits_128 i.greatest
+lies_within None = false
+
+abbrev pub is_narrow : TypedExpr → Bool
+is_narrow x = lies_within (interval_of x)
 
 abbrev pub cannot_overflow : TypedExpr → Bool
-cannot_overflow e = is_some (bounds e)
+cannot_overflow x = list_all is_narrow (parts x)

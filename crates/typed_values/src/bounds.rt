@@ -2,23 +2,25 @@
 
 ghost use Rattle.std.specs.Prelude.{◌≡◌, is_some};
 ghost use Rattle.std.specs.List.{list_all};
-ghost use Rattle.typed_values.specs.Bounds as spec;
+ghost use Rattle.typed_values.specs.Bounds as rule;
+ghost use Rattle.typed_values.specs.Intervals.{truth};
+ghost use Rattle.typed_values.specs.Narrow as spec;
 
 use crate::intervals::{
-    Interval, combined_interval, divisor, from_to, literal, of_kind, quotient_interval,
+    Interval, combined_interval, date, divisor, from_to, literal, of_kind, quotient_interval,
     signed_interval,
 };
 use query_trees::{BinaryOp, Sign};
 use typed_trees::TypedExpr;
 
 fn truth() -> Interval
-    ensures { result ≡ spec.truth }
+    ensures { result ≡ truth }
 {
     from_to(0, 1)
 }
 
 fn signed(sign: Sign, a: Option<Interval>) -> Option<Interval>
-    ensures { result ≡ spec.signed sign a }
+    ensures { result ≡ spec.signed_bounds sign a }
 {
     match a {
         None => None,
@@ -36,7 +38,7 @@ fn negated(a: Option<Interval>) -> Option<Interval>
 }
 
 fn is_arithmetic(op: BinaryOp) -> bool
-    ensures { result ≡ spec.is_arithmetic op }
+    ensures { result ≡ rule.is_arithmetic op }
 {
     match op {
         BinaryOp::Add | BinaryOp::Subtract | BinaryOp::Multiply => true,
@@ -97,14 +99,14 @@ fn all_bounded(are_bounded: bool) -> Option<Interval>
 
 /// The interval of an expression, none where that of a part leaves 128 bits.
 #[cycle(bounds)]
-#[tactic(auto, unfolding(crate::specs::Bounds::bounds))]
+#[tactic(auto, unfolding(crate::specs::Narrow::bounds))]
 fn bounds(e: &TypedExpr) -> Option<Interval>
     ensures { result ≡ spec.bounds e.now }
 {
     match e {
         TypedExpr::Number(n) => literal(*n),
         TypedExpr::Text(_) => Some(from_to(0, 4294967295)),
-        TypedExpr::Date(day) => Some(from_to(*day as i128, *day as i128)),
+        TypedExpr::Date(day) => date(*day),
         TypedExpr::Column(_, kind) => Some(of_kind(*kind)),
         TypedExpr::Aggregate(_) => None,
         TypedExpr::Signed(sign, x) => signed(*sign, bounds(x.get())),
@@ -121,8 +123,9 @@ fn bounds(e: &TypedExpr) -> Option<Interval>
 /// Whether no value of an expression, nor of any part of it, can leave 128 bits, by the ends of its columns and literals alone.
 ///
 /// It is false of an expression with an aggregate, whose values have no ends of their own. The recursion is as deep as the expression.
+#[tactic(auto, using(crate::proofs::Found::found_where_narrow))]
 pub fn cannot_overflow(e: &TypedExpr) -> bool
-    ensures { result ≡ spec.cannot_overflow e.now }
+    ensures { result ≡ rule.cannot_overflow e.now }
 {
     bounds(e).is_some()
 }

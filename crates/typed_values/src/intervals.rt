@@ -2,27 +2,28 @@
 
 ghost use Rattle.std.specs.Prelude.{◌≡◌};
 ghost use Rattle.control_vectors.specs.Slots.{in_128_bits};
-ghost use Rattle.typed_values.specs.Intervals as spec;
+ghost use Rattle.typed_values.specs.Intervals as exactly;
+ghost use Rattle.typed_values.specs.Narrow as spec;
 
 use control_vectors::{add, mul, quot, sub};
 use query_trees::{BinaryOp, Sign};
 use sql_read::ColumnKind;
 
 /// The least and the greatest that a value may be.
-#[derive(Clone, Copy, Debug, PartialEq, Eq)]
+#[derive(Clone, Copy)]
 pub struct Interval {
     pub least: i128,
     pub greatest: i128,
 }
 
 pub fn from_to(least: i128, greatest: i128) -> Interval
-    ensures { result ≡ spec.interval least greatest }
+    ensures { result ≡ exactly.interval least greatest }
 {
     Interval { least, greatest }
 }
 
 pub fn of_kind(kind: ColumnKind) -> Interval
-    ensures { result ≡ spec.of_kind kind }
+    ensures { result ≡ exactly.of_kind kind }
 {
     match kind {
         ColumnKind::Integer => from_to(-9223372036854775808, 9223372036854775807),
@@ -62,8 +63,15 @@ pub fn literal(n: u128) -> Option<Interval>
     }
 }
 
+/// A date's interval, its day alone.
+pub fn date(day: i32) -> Option<Interval>
+    ensures { result ≡ spec.exact day }
+{
+    Some(from_to(day as i128, day as i128))
+}
+
 fn signed(sign: Sign, z: i128) -> Option<i128>
-    ensures { result ≡ in_128_bits (spec.signed sign z) }
+    ensures { result ≡ in_128_bits (exactly.signed sign z) }
 {
     match sign {
         Sign::Plus => add(0, z),
@@ -81,7 +89,7 @@ pub fn signed_interval(sign: Sign, a: Interval) -> Option<Interval>
 }
 
 fn combined(op: BinaryOp, x: i128, y: i128) -> Option<i128>
-    ensures { result ≡ in_128_bits (spec.combined op x y) }
+    ensures { result ≡ in_128_bits (exactly.combined op x y) }
 {
     match op {
         BinaryOp::Subtract => sub(x, y),

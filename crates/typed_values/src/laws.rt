@@ -1,5 +1,6 @@
 //! Worked evaluations of each operator, each table stated once, as a contract.
 
+ghost use Rattle.typed_values.specs.BoundExamples.{IntervalTable, NarrowTable};
 ghost use Rattle.typed_values.specs.Examples.{AndTable, OrTable, NotTable, ComparisonTable, BetweenTable, InTable, SumTable, QuotientTable, NegativeTable, WholeTable};
 
 /// AND, OR and NOT over true, false, unknown and Over.
@@ -26,4 +27,14 @@ pub fn arithmetic()
 /// Expressions of several operators, on a row.
 pub fn expressions()
     ensures { WholeTable }
+{}
+
+/// The least and the greatest that expressions can be.
+pub fn intervals()
+    ensures { IntervalTable }
+{}
+
+/// Which expressions cannot overflow.
+pub fn narrow()
+    ensures { NarrowTable }
 {}

@@ -12,7 +12,8 @@ use Rattle.query_trees.specs.declared.expr.BinaryOp.TheVariants as op
 use Rattle.query_trees.specs.declared.expr.Sign.{Sign}
 use Rattle.query_trees.specs.declared.expr.Sign.TheVariants as sign
 use Rattle.typed_values.specs.declared.intervals.Interval.{Interval}
-use Rattle.typed_values.specs.Intervals.{interval, point, hull, exact, literal, signed, signed_interval, combined, combined_interval, is_zero, quotient_interval}
+use Rattle.typed_values.specs.Intervals.{interval, signed, combined, is_zero}
+use Rattle.typed_values.specs.Narrow.{point, hull, exact, literal, signed_interval, combined_interval, quotient_interval}
 use borrow.Author.Differences.{up, down}
 
 -- between two numbers, whichever of them is the lesser
@@ -43,7 +44,7 @@ covers_point z h = record {
   below = λ i e. let s = some_same (interval z z) i e in omega (arith, ints);
 }
 
-covers_exact : (z : ℤ) → Covers (exact z) z
+pub covers_exact : (z : ℤ) → Covers (exact z) z
 covers_exact z = by (fits_128 z) refl
   where
     by : (t : Bool) → fits_128 z ≡ t → Covers (point (if t then Some z else None)) z

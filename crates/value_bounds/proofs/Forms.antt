@@ -1,6 +1,5 @@
 -- Each form of an expression has a value that its interval holds, where its operands have.
 use Rattle.std.proofs.Common.{◌≡◌, ℕ, ℤ, pos, ◌≤ℤ◌, int_le, int_div, Bool, true, false, ◌&&◌, if◌then◌else◌, T, List, [], ◌∷◌, Option, Some, None, Result, Ok, Err, IsOkAnd, refl, sym, subst}
-use Rattle.std.specs.Int.Signed.{≤ℤ_refl}
 use Rattle.control_vectors.specs.declared.Over.{Over}
 use Rattle.control_vectors.specs.Slots.{fits_128, in_128_bits}
 use Rattle.control_vectors.proofs.NumberLaws.{in_128_bits_yes, in_128_bits-some}
@@ -11,13 +10,14 @@ use Rattle.query_trees.specs.declared.expr.Polarity.{Polarity}
 use Rattle.query_trees.specs.declared.expr.Polarity.TheVariants.{Plain, Negated}
 use Rattle.query_trees.specs.declared.expr.Sign.{Sign}
 use Rattle.typed_values.specs.declared.intervals.Interval.{Interval}
-use Rattle.typed_values.specs.Intervals.{interval, of_kind, literal, signed, signed_interval, combined, combined_interval, quotient_interval, divisor}
-use Rattle.typed_values.specs.Bounds as b
-use Rattle.typed_values.specs.Bounds.{Bounds}
+use Rattle.typed_values.specs.Intervals.{of_kind, signed, combined}
+use Rattle.typed_values.specs.Narrow.{literal, signed_interval, combined_interval, quotient_interval, divisor}
+use Rattle.typed_values.specs.Narrow as b
+use Rattle.typed_values.specs.Narrow.{Bounds}
 use Rattle.sql_values.specs.Values.{Value, number, text, truth, null}
 use Rattle.typed_values.specs.Values.{Valued, with, with_both, or_over, exact, calculated, signed_value, divided, compared, both, opposite, either, by_polarity, between, among, joined, more_valued, all_valued, among_valued}
 use Rattle.value_bounds.specs.Laws.{holds}
-use Rattle.value_bounds.proofs.Ends.{Covers, no_interval, literal_covers, signed_covers, combined_covers, quotient_covers}
+use Rattle.value_bounds.proofs.Ends.{Covers, no_interval, covers_exact, literal_covers, signed_covers, combined_covers, quotient_covers}
 
 -- a value that an interval holds
 abbrev pub HasValue : Interval → Valued → Type 0
@@ -114,14 +114,12 @@ number_bounded n i e t = covered (literal n) (pos n) i (literal_covers n) e
 pub text_bounded : (t : List ℕ) (p : Bounds) → IsBounded p true (Ok (text t))
 text_bounded t p i e is = refl
 
-day_held : (day : ℤ) → holds (interval day day) (number day) ≡ true
-day_held day = true_both (int_le day day) (int_le day day) (reflexive day) (reflexive day)
-  where
-    reflexive : (z : ℤ) → T (int_le z z)
-    reflexive z = (≤ℤ_refl z).le
-
-pub date_bounded : (day : ℤ) → IsBounded (Some (interval day day)) true (Ok (number day))
-date_bounded day i e t = let same : interval day day ≡ i = cc in subst (λ (j : Interval). holds j (number day) ≡ true) same (day_held day)
+pub date_bounded : (day : ℤ) → IsBounded (b.exact day) true (Ok (number day))
+date_bounded day i e t =
+    let h = covers_exact day in
+    let low = h.above i e in
+    let high = h.below i e in
+    true_both (int_le i.least day) (int_le day i.greatest) low.le high.le
 
 pub column_bounded : (kind : ColumnKind) (v : Value) → IsBounded (Some (of_kind kind)) (holds (of_kind kind) v) (Ok v)
 column_bounded kind v i e t = let same : of_kind kind ≡ i = cc in subst (λ (j : Interval). holds j v ≡ true) same t
@@ -137,7 +135,7 @@ signed_held s a i (text t) e h = refl
 signed_held s a i (truth x) e h = refl
 signed_held s a i null e h = refl
 
-pub signed_bounded : (s : Sign) (p : Bounds) (f : Bool) (r : Valued) → IsBounded p f r → IsBounded (b.signed s p) f (with r (signed_value s))
+pub signed_bounded : (s : Sign) (p : Bounds) (f : Bool) (r : Valued) → IsBounded p f r → IsBounded (b.signed_bounds s p) f (with r (signed_value s))
 signed_bounded s None f r h i e t = absurd (no_interval i e)
 signed_bounded s (Some a) f r h i e t = then_held a i r (signed_value s) (h a refl t) (λ v k. signed_held s a i v e k)
 

@@ -7,7 +7,8 @@ use Rattle.typed_trees.specs.declared.typed.TypedExpr.TheOpen.{TypedExpr-F}
 use Rattle.typed_trees.specs.declared.typed.TypedExpr.TheFolds.{map-TypedExpr, fold-roll-TypedExpr, ind-TypedExpr}
 use Rattle.typed_values.specs.declared.intervals.Interval.{Interval}
 use Rattle.typed_values.specs.Intervals.{interval}
-use Rattle.typed_values.specs.Bounds.{Bounds, form_bounds, bounds}
+use Rattle.typed_values.specs.Narrow.{Bounds, form_bounds, bounds}
+use Rattle.typed_values.proofs.Found.{found_where_narrow, found_is_interval}
 use Rattle.sql_values.specs.Values.{Value, null}
 use Rattle.typed_values.specs.Values.{Valued, On, form_value, value, value_on_row, all_valued}
 use Rattle.value_bounds.specs.Laws.{form_fits, fits, ValueLaw, NeverOver}
@@ -91,9 +92,9 @@ held : (columns : ColumnRef → Value) (e : TypedExpr) → IsHeld columns e
 held columns = ind-TypedExpr (IsHeld columns) (λ x y is. subst (λ z. IsHeld columns (roll-TypedExpr z)) is (by_layer columns y))
 
 pub value_law : ValueLaw
-value_law columns e i = held columns e i
+value_law columns e i narrow is f = held columns e i (found_is_interval e narrow ∙ is) f
 
 pub never_over : NeverOver
-never_over columns e b f is =
-    let i = some_of (bounds e) b in
+never_over columns e narrow f is =
+    let i = some_of (bounds e) (found_where_narrow e ∙ narrow) in
     subst (λ (r : Valued). HasValue i.0 r) is (held columns e i.0 i.1 f)

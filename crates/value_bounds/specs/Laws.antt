@@ -1,4 +1,4 @@
--- What the interval of an expression says of its value, on rows whose numbers lie in the intervals of their columns' kinds: it has one, and a number lies within.
+-- What the interval of an expression that cannot overflow says of its value, on rows whose numbers lie in the intervals of their columns' kinds: it has one, and a number lies within.
 use Rattle.std.specs.Prelude.{◌≡◌, ◌≢◌, int_le, Bool, true, ◌&&◌, Some, Err, IsOkAnd}
 use Rattle.std.specs.List.{list_all}
 use Rattle.control_vectors.specs.Slots.{over}
@@ -8,7 +8,7 @@ use Rattle.typed_trees.specs.declared.typed.TypedExpr.TheOpen.{TypedExpr-F}
 use Rattle.typed_trees.specs.declared.typed.TypedExpr.TheFolds.{fold-TypedExpr}
 use Rattle.typed_values.specs.declared.intervals.Interval.{Interval}
 use Rattle.typed_values.specs.Intervals.{of_kind}
-use Rattle.typed_values.specs.Bounds.{bounds, cannot_overflow}
+use Rattle.typed_values.specs.Bounds.{interval_of, cannot_overflow}
 use Rattle.sql_values.specs.Values.{Value, number}
 use Rattle.typed_values.specs.Values.{value_on_row}
 
@@ -34,9 +34,9 @@ form_fits columns (TypedExpr-F.In p x ys) = x && list_all (λ y. y) ys
 unfoldable pub fits : (ColumnRef → Value) → TypedExpr → Bool
 fits columns = fold-TypedExpr Bool (form_fits columns)
 
--- an expression that has an interval has a value on each row that fits it, which the interval holds
+-- an expression that cannot overflow has a value on each row that fits it, which its interval holds
 abbrev pub ValueLaw : Type 0
-ValueLaw = (columns : ColumnRef → Value) (e : TypedExpr) (i : Interval) → bounds e ≡ Some i → fits columns e ≡ true → IsOkAnd (value_on_row columns e) (λ v. holds i v ≡ true)
+ValueLaw = (columns : ColumnRef → Value) (e : TypedExpr) (i : Interval) → cannot_overflow e ≡ true → interval_of e ≡ Some i → fits columns e ≡ true → IsOkAnd (value_on_row columns e) (λ v. holds i v ≡ true)
 
 -- an expression that cannot overflow is Over on no row that fits it
 abbrev pub NeverOver : Type 0

@@ -2,7 +2,7 @@
 
 ghost use Rattle.value_bounds.specs.Laws.{NeverOver, ValueLaw};
 
-/// An expression that has an interval has a value on each row that fits its columns, and a number lies within the interval.
+/// An expression that cannot overflow has a value on each row that fits its columns, and a number lies within its interval.
 pub fn value_law()
     ensures { ValueLaw }
 {}

@@ -1,6 +1,6 @@
 use Rattle.std.proofs.Common.{◌≡◌, drop, is_some}
 use Rattle.std.specs.List.{list_all}
-use Rattle.typed_values.specs.Bounds.{bounds}
+use Rattle.typed_values.specs.Narrow.{bounds}
 use Rattle.typed_values.proofs.bounds.+bounds.Given as goal
 
 abbrev pub invariant-are_bounded-loop-x : goal.invariant-are_bounded-loop-x
