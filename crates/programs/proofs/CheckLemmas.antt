@@ -1,14 +1,14 @@
 -- Checks compose, and statements leave what is known of other names alone.
-use Rattle.std.proofs.Common.{◌≡◌, List, [], ◌∷◌, ◌++◌, Bool, false, refl, sym, ap, ◌∙◌, Option, Some, None, Ok, Err, if◌then◌else◌}
+use Rattle.std.proofs.Common.{◌≡◌, List, [], ◌∷◌, ◌++◌, Bool, true, false, refl, sym, ap, ◌∙◌, Option, Some, None, Ok, Err, if◌then◌else◌}
 use Rattle.std.specs.Str.{bytes_eq}
 use Rattle.programs.specs.declared.op.Op.{Op}
-use Rattle.programs.specs.declared.op.Op.TheVariants.{Persist}
 use Rattle.programs.specs.declared.op.ProgramKind.{ProgramKind}
 use Rattle.programs.specs.declared.op.Statement.{Statement}
-use Rattle.programs.specs.Mentions.{Label}
+use Rattle.programs.specs.Mentions.{Label, is_persist}
 use Rattle.programs.specs.Outlines.{Outline, Shapes, add_shape}
+use Rattle.programs.specs.Made.{made_outline}
 use Rattle.programs.specs.Laws.{Avoids, CheckLaws}
-use Rattle.programs.specs.Check.{Known, learn, fault_of, Checked, after_fault, check_one, then_check, check_from}
+use Rattle.programs.specs.Check.{Known, with_result, with_vector, learn, fault_of, Checked, after_fault, check_one, then_check, check_from}
 
 then_same : (r : Checked) (f g : Known → Checked) → ((k : Known) → f k ≡ g k) → then_check r f ≡ then_check r g
 then_same (Err e) f g same = refl
@@ -28,8 +28,11 @@ pub add_shape-other : (shapes : Shapes) (n m : Label) (shape : Outline) → byte
 add_shape-other shapes n m shape e = ap (λ (b : Bool). if b then Some shape else shapes m) e
 
 learn_frame : (tables : Shapes) (known : Known) (n m : Label) (op : Op) → bytes_eq n m ≡ false → (learn tables known n op).vectors m ≡ known.vectors m
-learn_frame tables known n m (Persist a) e = refl
-learn_frame tables known n m _ e = add_shape-other known.vectors n m _ e
+learn_frame tables known n m op e = by (is_persist op)
+  where
+    by : (b : Bool) → (if b then with_result known n else with_vector known n (made_outline tables known.vectors op)).vectors m ≡ known.vectors m
+    by true = refl
+    by false = add_shape-other known.vectors n m (made_outline tables known.vectors op) e
 
 one_frame : (known next after : Known) (m : Label) (fault : Option ProgramKind) → next.vectors m ≡ known.vectors m → after_fault known next fault ≡ Ok after → after.vectors m ≡ known.vectors m
 one_frame known next after m None e h = let same : next ≡ after = cc in ap (λ (k : Known). k.vectors m) (sym same) ∙ e

@@ -10,15 +10,15 @@ use Rattle.programs.specs.declared.op.Size.TheVariants.{Number, Of}
 use Rattle.programs.specs.declared.op.Operand.{Operand}
 use Rattle.programs.specs.declared.op.Operand.TheVariants as operand
 use Rattle.programs.specs.declared.op.Op.{Op}
-use Rattle.programs.specs.declared.op.Op.TheVariants.{Load, Persist, Range, Cross, Zip, Project, Upsert, Gather, Scatter, Bucket, Partition, Materialize, Break, FoldSum, FoldMin, FoldMax, FoldSelect, FoldScan, Order, Add, Subtract, Multiply, Divide, Modulo, BitShift, Greater, Equals, LogicalAnd, LogicalOr, Fill}
+use Rattle.programs.specs.Families.{Family, family, Load, Persist, Range, Cross, Zip, Project, Upsert, Gather, Scatter, Rank, Materialize, Break, Fold, Order, Pair, BitShift}
 use Rattle.programs.specs.declared.op.ProgramKind.{ProgramKind}
 use Rattle.programs.specs.declared.op.ProgramKind.TheVariants.{TooManyStatements}
 use Rattle.programs.specs.declared.op.Statement.{Statement}
-use Rattle.programs.specs.Mentions.{Label}
+use Rattle.programs.specs.Mentions.{Label, is_persist}
 use Rattle.programs.specs.Outlines.{Outline, Shapes, no_outline, len_in, known_outline}
-use Rattle.programs.specs.Made.{made_outline, size_in, capped, pair_len_in, operand_len_in}
-use Rattle.programs.specs.Check.{Known, fault, Checked, learn, fault_of, after_fault, then_check, check_from, at_start, names_result, shape_of, limit_from, limit_of, with_vector}
-use Rattle.programs.specs.Laws.{SizeFits, SizesFit, LimitLaw}
+use Rattle.programs.specs.Made.{made_by, made_outline, size_in, capped, pair_len_in, operand_len_in}
+use Rattle.programs.specs.Check.{Known, fault, Checked, learn, fault_of, after_fault, then_check, check_from, at_start, names_result, shape_of, limit_from, limit_of, with_result, with_vector}
+use Rattle.programs.specs.Laws.{SizeFits, SizesFitBy, SizesFit, LimitLaw}
 use Rattle.programs.proofs.ShapeLaws.{none_of_if}
 
 -- ---- lengths
@@ -46,7 +46,7 @@ product_short m n h k = let p : m * n ≤ 2 ^ 22 * 2 ^ 22 = mul-le-mul h k in om
 zip_short : (m n : ℕ) → m ≤ 2 ^ 22 → min m n ≤ 2 ^ 44
 zip_short m n h = omega (arith, h)
 
-made_short : (T V : Shapes) (op : Op) → ((t : Label) → len_in T t ≤ 2 ^ 22) → ((a : Label) → len_in V a ≤ 2 ^ 22) → SizesFit op → (made_outline T V op).len ≤ 2 ^ 44
+made_short : (T V : Shapes) (f : Family) → ((t : Label) → len_in T t ≤ 2 ^ 22) → ((a : Label) → len_in V a ≤ 2 ^ 22) → SizesFitBy f → (made_by T V f).len ≤ 2 ^ 44
 made_short T V (Load t) g h s = longer _ (g t)
 made_short T V (Persist a) g h s = omega arith
 made_short T V (Range size p control) g h s = size_short V size h s
@@ -56,27 +56,13 @@ made_short T V (Project a p q) g h s = longer _ (h a)
 made_short T V (Upsert a p b q) g h s = longer _ (h a)
 made_short T V (Gather a b pos) g h s = longer _ (h b)
 made_short T V (Scatter a size b pos) g h s = size_short V size h s
-made_short T V (Bucket r) g h s = longer _ (h r.a)
-made_short T V (Partition r) g h s = longer _ (h r.a)
+made_short T V (Rank kind r) g h s = longer _ (h r.a)
 made_short T V (Materialize a) g h s = longer _ (h a)
 made_short T V (Break a) g h s = longer _ (h a)
-made_short T V (FoldSum f) g h s = longer _ (h f.a)
-made_short T V (FoldMin f) g h s = longer _ (h f.a)
-made_short T V (FoldMax f) g h s = longer _ (h f.a)
-made_short T V (FoldSelect f) g h s = longer _ (h f.a)
-made_short T V (FoldScan f) g h s = longer _ (h f.a)
+made_short T V (Fold kind f) g h s = longer _ (h f.a)
 made_short T V (Order a mark out keys) g h s = longer _ (h a)
+made_short T V (Pair kind p) g h s = pair_short V p.x p.y h
 made_short T V (BitShift x by out) g h s = operand_short V x h
-made_short T V (Add p) g h s = pair_short V p.x p.y h
-made_short T V (Subtract p) g h s = pair_short V p.x p.y h
-made_short T V (Multiply p) g h s = pair_short V p.x p.y h
-made_short T V (Divide p) g h s = pair_short V p.x p.y h
-made_short T V (Modulo p) g h s = pair_short V p.x p.y h
-made_short T V (Greater p) g h s = pair_short V p.x p.y h
-made_short T V (Equals p) g h s = pair_short V p.x p.y h
-made_short T V (LogicalAnd p) g h s = pair_short V p.x p.y h
-made_short T V (LogicalOr p) g h s = pair_short V p.x p.y h
-made_short T V (Fill p) g h s = pair_short V p.x p.y h
 
 -- ---- one outline more
 
@@ -123,10 +109,16 @@ vector_more known n o short small = by (nat_lt (2 ^ 22) o.len) refl
     by false e = inl (record { none = limit_end 1 known.shape o small.none ∙ ap (λ (b : Bool). if b then Some (1 + length known.shape, o.len) else None) e; each = each (within o.len e) })
 
 held_next : (T : Shapes) (known : Known) (n : Label) (op : Op) → ((t : Label) → len_in T t ≤ 2 ^ 22) → SizesFit op → Small known ⊎ Passed known → Small (learn T known n op) ⊎ Passed (learn T known n op)
-held_next T known n (Persist a) g s (inl small) = inl (record { none = limit_end 1 known.shape no_outline small.none; each = small.each })
-held_next T known n (Persist a) g s (inr p) = inr (record { place = p.place; len = p.len; at = limit_kept 1 known.shape no_outline (p.place, p.len) p.at; exact = p.exact })
-held_next T known n op g s (inl small) = vector_more known n (made_outline T known.vectors op) (made_short T known.vectors op g small.each s) small
-held_next T known n op g s (inr p) = inr (record { place = p.place; len = p.len; at = limit_kept 1 known.shape (made_outline T known.vectors op) (p.place, p.len) p.at; exact = p.exact })
+held_next T known n op g s h = by (is_persist op) h
+  where
+    made : Outline
+    made = made_outline T known.vectors op
+
+    by : (b : Bool) → Small known ⊎ Passed known → Small (if b then with_result known n else with_vector known n made) ⊎ Passed (if b then with_result known n else with_vector known n made)
+    by true (inl small) = inl (record { none = limit_end 1 known.shape no_outline small.none; each = small.each })
+    by true (inr p) = inr (record { place = p.place; len = p.len; at = limit_kept 1 known.shape no_outline (p.place, p.len) p.at; exact = p.exact })
+    by false (inl small) = vector_more known n made (made_short T known.vectors (family op) g small.each s) small
+    by false (inr p) = inr (record { place = p.place; len = p.len; at = limit_kept 1 known.shape made (p.place, p.len) p.at; exact = p.exact })
 
 held_from : (T : Shapes) (statements : List Statement) (known after : Known) → ((t : Label) → len_in T t ≤ 2 ^ 22) → All (λ s. SizesFit s.op) statements → Small known ⊎ Passed known → check_from T statements known ≡ Ok after → Small after ⊎ Passed after
 held_from T [] known after g each h e = let same : known ≡ after = cc in subst (λ (k : Known). Small k ⊎ Passed k) same h

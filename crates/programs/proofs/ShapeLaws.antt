@@ -3,18 +3,20 @@ use Rattle.std.proofs.Common.{◌≡◌, ℕ, zero, suc, ◌+◌, ◌^◌, ◌<�
 use Rattle.std.proofs.lemmas.Bool.Decides.{nat_tests}
 use Rattle.std.proofs.lemmas.List.{drop_more}
 use Rattle.programs.specs.declared.op.Op.{Op}
-use Rattle.programs.specs.declared.op.Op.TheVariants.{Persist}
-use Rattle.programs.specs.Mentions.{Label}
+use Rattle.programs.specs.Mentions.{Label, is_persist}
 use Rattle.programs.specs.Outlines.{Outline, no_outline}
-use Rattle.programs.specs.Check.{Known, known_behind, limit_from}
+use Rattle.programs.specs.Check.{Known, with_result, with_vector, known_behind, limit_from}
 
 length_end : (xs : List Outline) (x : Outline) → length (xs ++ x ∷ []) ≡ length xs + 1
 length_end [] x = refl
 length_end (y ∷ xs) x = omega (arith, length_end xs x)
 
 pub length_behind : (known : Known) (n : Label) (op : Op) (made : Outline) → length (known_behind known n op made).shape ≡ length known.shape + 1
-length_behind known n (Persist a) made = length_end known.shape no_outline
-length_behind known n _ made = length_end known.shape made
+length_behind known n op made = by (is_persist op)
+  where
+    by : (b : Bool) → length (if b then with_result known n else with_vector known n made).shape ≡ length known.shape + 1
+    by true = length_end known.shape no_outline
+    by false = length_end known.shape made
 
 -- ---- limits
 

@@ -3,7 +3,6 @@ use Rattle.std.specs.Prelude.{ℕ, ◌+◌, ◌-◌, ◌^◌, Bool, true, false,
 use Rattle.std.specs.List.{list_any}
 use Rattle.std.specs.Str.{bytes_eq}
 use Rattle.programs.specs.declared.op.Op.{Op}
-use Rattle.programs.specs.declared.op.Op.TheVariants.{Persist}
 use Rattle.programs.specs.declared.op.Statement.{Statement}
 use Rattle.programs.specs.declared.op.ProgramKind.{ProgramKind}
 use Rattle.programs.specs.declared.op.ProgramKind.TheVariants.{TooManyStatements, NameTwice, NoPersist}
@@ -21,8 +20,7 @@ pub record Known : Type 0 where
 
 -- vectors have names of their own, and so have results
 abbrev pub name_twice : Known → Label → Op → Bool
-name_twice known n (Persist a) = known.results n
-name_twice known n _ = is_some (known.vectors n)
+name_twice known n op = if is_persist op then known.results n else is_some (known.vectors n)
 
 abbrev pub fault_of : Shapes → Known → Label → Op → Option ProgramKind
 fault_of tables known n op = first_fault (op_tests tables known.vectors op ++ (name_twice known n op, NameTwice) ∷ [])
@@ -42,8 +40,7 @@ with_vector known n outline = record {
 }
 
 abbrev pub known_behind : Known → Label → Op → Outline → Known
-known_behind known n (Persist a) made = with_result known n
-known_behind known n _ made = with_vector known n made
+known_behind known n op made = if is_persist op then with_result known n else with_vector known n made
 
 abbrev pub learn : Shapes → Known → Label → Op → Known
 learn tables known n op = known_behind known n op (made_outline tables known.vectors op)

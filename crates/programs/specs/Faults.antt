@@ -10,20 +10,23 @@ use Rattle.programs.specs.declared.op.FoldArgs.{FoldArgs}
 use Rattle.programs.specs.declared.op.RankArgs.{RankArgs}
 use Rattle.programs.specs.declared.order_keys.OrderPath.{OrderPath}
 use Rattle.programs.specs.declared.op.Op.{Op}
-use Rattle.programs.specs.declared.op.Op.TheVariants.{Load, Project, Upsert, Gather, Scatter, Bucket, Partition, FoldSum, FoldMin, FoldMax, FoldSelect, FoldScan, Order, Add, Subtract, Multiply, Divide, Modulo, BitShift, Greater, Equals, LogicalAnd, LogicalOr, Fill}
+use Rattle.programs.specs.Families.{Family, family, Load, Project, Upsert, Gather, Scatter, Rank, Fold, Order, Pair, BitShift}
 use Rattle.programs.specs.declared.op.ProgramKind.{ProgramKind}
 use Rattle.programs.specs.declared.op.ProgramKind.TheVariants.{UnknownName, NoSuchPath, NoLength, PathClash, TooDeep, TooManyKeys}
-use Rattle.programs.specs.Mentions.{Label, mentioned, has_name}
+use Rattle.programs.specs.Mentions.{Label, mentioned_by, has_name}
 use Rattle.programs.specs.Moves.{is_deep}
 use Rattle.programs.specs.Orders.{Rises}
 use Rattle.programs.specs.Outlines.{Outline, Shapes, paths_in}
-use Rattle.programs.specs.Made.{made_outline}
+use Rattle.programs.specs.Made.{made_by}
 
 -- ---- names
 -- no earlier statement other than a Persist has a name that it mentions, or no table has the name that it loads
+abbrev pub unknown_by : Shapes → Shapes → Family → Bool
+unknown_by tables vectors (Load t) = is_none (tables t)
+unknown_by tables vectors f = list_any (λ a. is_none (vectors a)) (mentioned_by f)
+
 abbrev pub unknown_name : Shapes → Shapes → Op → Bool
-unknown_name tables vectors (Load t) = is_none (tables t)
-unknown_name tables vectors op = list_any (λ a. is_none (vectors a)) (mentioned op)
+unknown_name tables vectors op = unknown_by tables vectors (family op)
 
 -- ---- paths
 abbrev pub lacks_path : Shapes → Label → Label → Bool
@@ -50,31 +53,20 @@ abbrev pub lacks_order : Shapes → Label → Label → List OrderPath → Bool
 lacks_order vectors a mark keys = lacks_path vectors a mark || list_any (λ k. lacks_path vectors a k.path) keys
 
 -- a path that is no attribute; where a path names a run or what is projected, nothing at or below it
+abbrev pub lacks_by : Shapes → Family → Bool
+lacks_by vectors (Project a p q) = lacks_below vectors a p
+lacks_by vectors (Upsert a p b q) = lacks_path vectors b q
+lacks_by vectors (Gather a b pos) = lacks_path vectors b pos
+lacks_by vectors (Scatter a size b pos) = lacks_path vectors b pos
+lacks_by vectors (Rank kind r) = lacks_rank vectors r
+lacks_by vectors (Fold kind f) = lacks_fold vectors f
+lacks_by vectors (Order a mark out keys) = lacks_order vectors a mark keys
+lacks_by vectors (Pair kind p) = lacks_pair vectors p
+lacks_by vectors (BitShift x by out) = lacks_operand vectors x
+lacks_by vectors _ = false
+
 abbrev pub no_such_path : Shapes → Op → Bool
-no_such_path vectors (Project a p q) = lacks_below vectors a p
-no_such_path vectors (Upsert a p b q) = lacks_path vectors b q
-no_such_path vectors (Gather a b pos) = lacks_path vectors b pos
-no_such_path vectors (Scatter a size b pos) = lacks_path vectors b pos
-no_such_path vectors (Bucket r) = lacks_rank vectors r
-no_such_path vectors (Partition r) = lacks_rank vectors r
-no_such_path vectors (FoldSum f) = lacks_fold vectors f
-no_such_path vectors (FoldMin f) = lacks_fold vectors f
-no_such_path vectors (FoldMax f) = lacks_fold vectors f
-no_such_path vectors (FoldSelect f) = lacks_fold vectors f
-no_such_path vectors (FoldScan f) = lacks_fold vectors f
-no_such_path vectors (Order a mark out keys) = lacks_order vectors a mark keys
-no_such_path vectors (Add p) = lacks_pair vectors p
-no_such_path vectors (Subtract p) = lacks_pair vectors p
-no_such_path vectors (Multiply p) = lacks_pair vectors p
-no_such_path vectors (Divide p) = lacks_pair vectors p
-no_such_path vectors (Modulo p) = lacks_pair vectors p
-no_such_path vectors (BitShift x by out) = lacks_operand vectors x
-no_such_path vectors (Greater p) = lacks_pair vectors p
-no_such_path vectors (Equals p) = lacks_pair vectors p
-no_such_path vectors (LogicalAnd p) = lacks_pair vectors p
-no_such_path vectors (LogicalOr p) = lacks_pair vectors p
-no_such_path vectors (Fill p) = lacks_pair vectors p
-no_such_path vectors _ = false
+no_such_path vectors op = lacks_by vectors (family op)
 
 -- ---- lengths
 abbrev pub is_number : Operand → Bool
@@ -85,19 +77,13 @@ abbrev pub both_numbers : PairArgs → Bool
 both_numbers p = is_number p.x && is_number p.y
 
 -- numbers alone have no length
+abbrev pub endless : Family → Bool
+endless (Pair kind p) = both_numbers p
+endless (BitShift x by out) = is_number x
+endless _ = false
+
 abbrev pub no_length : Op → Bool
-no_length (Add p) = both_numbers p
-no_length (Subtract p) = both_numbers p
-no_length (Multiply p) = both_numbers p
-no_length (Divide p) = both_numbers p
-no_length (Modulo p) = both_numbers p
-no_length (BitShift x by out) = is_number x
-no_length (Greater p) = both_numbers p
-no_length (Equals p) = both_numbers p
-no_length (LogicalAnd p) = both_numbers p
-no_length (LogicalOr p) = both_numbers p
-no_length (Fill p) = both_numbers p
-no_length _ = false
+no_length op = endless (family op)
 
 -- ---- the paths of what it makes
 -- no path is another or stands below it
@@ -124,9 +110,12 @@ too_deep made = list_any is_deep made.paths
 
 -- ---- keys
 -- an order has at most sixteen
+abbrev pub has_many_keys : Family → Bool
+has_many_keys (Order a mark out keys) = nat_lt 16 (length keys)
+has_many_keys _ = false
+
 abbrev pub too_many_keys : Op → Bool
-too_many_keys (Order a mark out keys) = nat_lt 16 (length keys)
-too_many_keys _ = false
+too_many_keys op = has_many_keys (family op)
 
 -- ---- the first of them
 -- the kind of the first test that holds
@@ -135,12 +124,15 @@ first_fault [] = None
 first_fault (t ∷ rest) = if t.0 then Some t.1 else first_fault rest
 
 -- the tests of an operator, in their order
-abbrev pub op_tests : Shapes → Shapes → Op → List (Bool × ProgramKind)
-op_tests tables vectors op =
-    (unknown_name tables vectors op, UnknownName)
-    ∷ (no_such_path vectors op, NoSuchPath)
-    ∷ (no_length op, NoLength)
-    ∷ (path_clash (made_outline tables vectors op), PathClash)
-    ∷ (too_deep (made_outline tables vectors op), TooDeep)
-    ∷ (too_many_keys op, TooManyKeys)
+abbrev pub tests_by : Shapes → Shapes → Family → List (Bool × ProgramKind)
+tests_by tables vectors f =
+    (unknown_by tables vectors f, UnknownName)
+    ∷ (lacks_by vectors f, NoSuchPath)
+    ∷ (endless f, NoLength)
+    ∷ (path_clash (made_by tables vectors f), PathClash)
+    ∷ (too_deep (made_by tables vectors f), TooDeep)
+    ∷ (has_many_keys f, TooManyKeys)
     ∷ []
+
+abbrev pub op_tests : Shapes → Shapes → Op → List (Bool × ProgramKind)
+op_tests tables vectors op = tests_by tables vectors (family op)

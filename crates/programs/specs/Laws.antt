@@ -4,7 +4,7 @@ use Rattle.std.specs.Str.{bytes_eq}
 use Rattle.programs.specs.declared.op.Size.{Size}
 use Rattle.programs.specs.declared.op.Size.TheVariants.{Number, Of}
 use Rattle.programs.specs.declared.op.Op.{Op}
-use Rattle.programs.specs.declared.op.Op.TheVariants.{Range, Scatter}
+use Rattle.programs.specs.Families.{Family, family, Range, Scatter}
 use Rattle.programs.specs.declared.op.Statement.{Statement}
 use Rattle.programs.specs.Mentions.{Label, has_name}
 use Rattle.programs.specs.Outlines.{Shapes, Outline, len_in}
@@ -41,10 +41,13 @@ abbrev pub SizeFits : Size → Type 0
 SizeFits (Number n) = n < 2 ^ 32
 SizeFits (Of a) = Unit {0}
 
+abbrev pub SizesFitBy : Family → Type 0
+SizesFitBy (Range size p control) = SizeFits size
+SizesFitBy (Scatter a size b pos) = SizeFits size
+SizesFitBy _ = Unit {0}
+
 abbrev pub SizesFit : Op → Type 0
-SizesFit (Range size p control) = SizeFits size
-SizesFit (Scatter a size b pos) = SizeFits size
-SizesFit _ = Unit {0}
+SizesFit op = SizesFitBy (family op)
 
 -- the first length that passes the limit is exact: it is far from the number at which products are kept
 abbrev pub LimitLaw : Type 0

@@ -1,3 +1,4 @@
+pub mod Families
 pub mod Mentions
 pub mod Vectors
 pub mod Merges

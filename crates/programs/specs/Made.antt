@@ -9,7 +9,7 @@ use Rattle.programs.specs.declared.op.PairArgs.{PairArgs}
 use Rattle.programs.specs.declared.op.FoldArgs.{FoldArgs}
 use Rattle.programs.specs.declared.op.RankArgs.{RankArgs}
 use Rattle.programs.specs.declared.op.Op.{Op}
-use Rattle.programs.specs.declared.op.Op.TheVariants.{Load, Persist, Range, Cross, Zip, Project, Upsert, Gather, Scatter, Bucket, Partition, Materialize, Break, FoldSum, FoldMin, FoldMax, FoldSelect, FoldScan, Order, Add, Subtract, Multiply, Divide, Modulo, BitShift, Greater, Equals, LogicalAnd, LogicalOr, Fill}
+use Rattle.programs.specs.Families.{Family, family, Load, Persist, Range, Cross, Zip, Project, Upsert, Gather, Scatter, Rank, Materialize, Break, Fold, Order, Pair, BitShift}
 use Rattle.programs.specs.Mentions.{Label}
 use Rattle.programs.specs.Merges.{merged}
 use Rattle.programs.specs.Moves.{projected, upserted}
@@ -51,34 +51,23 @@ fold_outline vectors f = outlined (len_in vectors f.a) (f.out ∷ [])
 abbrev pub rank_outline : Shapes → RankArgs → Outline
 rank_outline vectors r = outlined (len_in vectors r.a) (r.out ∷ [])
 
+abbrev pub made_by : Shapes → Shapes → Family → Outline
+made_by tables vectors (Load t) = known_outline (tables t)
+made_by tables vectors (Persist a) = no_outline
+made_by tables vectors (Range size p control) = outlined (size_in vectors size) (p ∷ [])
+made_by tables vectors (Cross a p b q) = cross_outline vectors a p b q
+made_by tables vectors (Zip a b) = zipped_outline (known_outline (vectors a)) (known_outline (vectors b))
+made_by tables vectors (Project a p q) = outlined (len_in vectors a) (projected p q (paths_in vectors a))
+made_by tables vectors (Upsert a p b q) = outlined (len_in vectors a) (upserted p (paths_in vectors a))
+made_by tables vectors (Gather a b pos) = outlined (len_in vectors b) (paths_in vectors a)
+made_by tables vectors (Scatter a size b pos) = outlined (size_in vectors size) (paths_in vectors a)
+made_by tables vectors (Rank kind r) = rank_outline vectors r
+made_by tables vectors (Materialize a) = known_outline (vectors a)
+made_by tables vectors (Break a) = known_outline (vectors a)
+made_by tables vectors (Fold kind f) = fold_outline vectors f
+made_by tables vectors (Order a mark out keys) = outlined (len_in vectors a) (out ∷ [])
+made_by tables vectors (Pair kind p) = pair_outline vectors p
+made_by tables vectors (BitShift x by out) = outlined (operand_len_in vectors x) (out ∷ [])
+
 abbrev pub made_outline : Shapes → Shapes → Op → Outline
-made_outline tables vectors (Load t) = known_outline (tables t)
-made_outline tables vectors (Persist a) = no_outline
-made_outline tables vectors (Range size p control) = outlined (size_in vectors size) (p ∷ [])
-made_outline tables vectors (Cross a p b q) = cross_outline vectors a p b q
-made_outline tables vectors (Zip a b) = zipped_outline (known_outline (vectors a)) (known_outline (vectors b))
-made_outline tables vectors (Project a p q) = outlined (len_in vectors a) (projected p q (paths_in vectors a))
-made_outline tables vectors (Upsert a p b q) = outlined (len_in vectors a) (upserted p (paths_in vectors a))
-made_outline tables vectors (Gather a b pos) = outlined (len_in vectors b) (paths_in vectors a)
-made_outline tables vectors (Scatter a size b pos) = outlined (size_in vectors size) (paths_in vectors a)
-made_outline tables vectors (Bucket r) = rank_outline vectors r
-made_outline tables vectors (Partition r) = rank_outline vectors r
-made_outline tables vectors (Materialize a) = known_outline (vectors a)
-made_outline tables vectors (Break a) = known_outline (vectors a)
-made_outline tables vectors (FoldSum f) = fold_outline vectors f
-made_outline tables vectors (FoldMin f) = fold_outline vectors f
-made_outline tables vectors (FoldMax f) = fold_outline vectors f
-made_outline tables vectors (FoldSelect f) = fold_outline vectors f
-made_outline tables vectors (FoldScan f) = fold_outline vectors f
-made_outline tables vectors (Order a mark out keys) = outlined (len_in vectors a) (out ∷ [])
-made_outline tables vectors (Add p) = pair_outline vectors p
-made_outline tables vectors (Subtract p) = pair_outline vectors p
-made_outline tables vectors (Multiply p) = pair_outline vectors p
-made_outline tables vectors (Divide p) = pair_outline vectors p
-made_outline tables vectors (Modulo p) = pair_outline vectors p
-made_outline tables vectors (BitShift x by out) = outlined (operand_len_in vectors x) (out ∷ [])
-made_outline tables vectors (Greater p) = pair_outline vectors p
-made_outline tables vectors (Equals p) = pair_outline vectors p
-made_outline tables vectors (LogicalAnd p) = pair_outline vectors p
-made_outline tables vectors (LogicalOr p) = pair_outline vectors p
-made_outline tables vectors (Fill p) = pair_outline vectors p
+made_outline tables vectors op = made_by tables vectors (family op)

@@ -7,7 +7,7 @@ use Rattle.programs.specs.declared.op.Size.TheVariants.{Number, Of}
 use Rattle.programs.specs.declared.op.Operand.{Operand}
 use Rattle.programs.specs.declared.op.Operand.TheVariants as operand
 use Rattle.programs.specs.declared.op.Op.{Op}
-use Rattle.programs.specs.declared.op.Op.TheVariants.{Load, Persist, Range, Cross, Zip, Project, Upsert, Gather, Scatter, Bucket, Partition, Materialize, Break, FoldSum, FoldMin, FoldMax, FoldSelect, FoldScan, Order, Add, Subtract, Multiply, Divide, Modulo, BitShift, Greater, Equals, LogicalAnd, LogicalOr, Fill}
+use Rattle.programs.specs.Families.{Family, family, Load, Persist, Range, Cross, Zip, Project, Upsert, Gather, Scatter, Rank, Materialize, Break, Fold, Order, Pair, BitShift}
 
 -- a name or a path is its bytes
 abbrev pub Label : Type 0
@@ -22,41 +22,33 @@ operand_names (operand.Column a p) = a ∷ []
 operand_names (operand.Number z) = []
 
 -- the vectors that a statement mentions
+abbrev pub mentioned_by : Family → List Label
+mentioned_by (Load t) = []
+mentioned_by (Persist a) = a ∷ []
+mentioned_by (Range size p control) = size_names size
+mentioned_by (Cross a p b q) = a ∷ b ∷ []
+mentioned_by (Zip a b) = a ∷ b ∷ []
+mentioned_by (Project a p q) = a ∷ []
+mentioned_by (Upsert a p b q) = a ∷ b ∷ []
+mentioned_by (Gather a b pos) = a ∷ b ∷ []
+mentioned_by (Scatter a size b pos) = a ∷ size_names size ++ b ∷ []
+mentioned_by (Rank kind r) = r.a ∷ r.b ∷ []
+mentioned_by (Materialize a) = a ∷ []
+mentioned_by (Break a) = a ∷ []
+mentioned_by (Fold kind f) = f.a ∷ []
+mentioned_by (Order a mark out keys) = a ∷ []
+mentioned_by (Pair kind p) = operand_names p.x ++ operand_names p.y
+mentioned_by (BitShift x by out) = operand_names x
+
 abbrev pub mentioned : Op → List Label
-mentioned (Load t) = []
-mentioned (Persist a) = a ∷ []
-mentioned (Range size p control) = size_names size
-mentioned (Cross a p b q) = a ∷ b ∷ []
-mentioned (Zip a b) = a ∷ b ∷ []
-mentioned (Project a p q) = a ∷ []
-mentioned (Upsert a p b q) = a ∷ b ∷ []
-mentioned (Gather a b pos) = a ∷ b ∷ []
-mentioned (Scatter a size b pos) = a ∷ size_names size ++ b ∷ []
-mentioned (Bucket r) = r.a ∷ r.b ∷ []
-mentioned (Partition r) = r.a ∷ r.b ∷ []
-mentioned (Materialize a) = a ∷ []
-mentioned (Break a) = a ∷ []
-mentioned (FoldSum f) = f.a ∷ []
-mentioned (FoldMin f) = f.a ∷ []
-mentioned (FoldMax f) = f.a ∷ []
-mentioned (FoldSelect f) = f.a ∷ []
-mentioned (FoldScan f) = f.a ∷ []
-mentioned (Order a mark out keys) = a ∷ []
-mentioned (Add p) = operand_names p.x ++ operand_names p.y
-mentioned (Subtract p) = operand_names p.x ++ operand_names p.y
-mentioned (Multiply p) = operand_names p.x ++ operand_names p.y
-mentioned (Divide p) = operand_names p.x ++ operand_names p.y
-mentioned (Modulo p) = operand_names p.x ++ operand_names p.y
-mentioned (BitShift x by out) = operand_names x
-mentioned (Greater p) = operand_names p.x ++ operand_names p.y
-mentioned (Equals p) = operand_names p.x ++ operand_names p.y
-mentioned (LogicalAnd p) = operand_names p.x ++ operand_names p.y
-mentioned (LogicalOr p) = operand_names p.x ++ operand_names p.y
-mentioned (Fill p) = operand_names p.x ++ operand_names p.y
+mentioned op = mentioned_by (family op)
+
+abbrev pub shows_result : Family → Bool
+shows_result (Persist a) = true
+shows_result _ = false
 
 abbrev pub is_persist : Op → Bool
-is_persist (Persist a) = true
-is_persist _ = false
+is_persist op = shows_result (family op)
 
 abbrev pub has_name : List Label → Label → Bool
 has_name names n = list_any (λ m. bytes_eq m n) names

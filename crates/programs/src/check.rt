@@ -12,7 +12,7 @@ use crate::faults::fault_of;
 use crate::known::Known;
 use crate::making::made_draft;
 use crate::outline::Outline;
-use crate::{NoMemory, Op, Program, ProgramKind, Shape, Statement};
+use crate::{NoMemory, Program, ProgramKind, Shape, Statement};
 use std::alloc::{AllocError, Global};
 use struct_vectors::Store;
 use thiserror::Error;
@@ -90,7 +90,10 @@ fn check_all(
 {
     let mut known = Known::nothing(alloc);
     for i in 0..statements.len() {
-        known = check_statement(alloc, store, known, &statements[i])?;
+        match check_statement(alloc, store, known, &statements[i]) {
+            Ok(next) => known = next,
+            Err(refusal) => return Err(refusal),
+        }
     }
     Ok(known)
 }
@@ -120,8 +123,9 @@ fn check_statement(
 fn learn(alloc: Global, known: Known, s: &Statement, made: Outline) -> Result<Known, NoMemory>
     ensures { IfOk result (λ k. known_in k ≡ known_behind (known_in known) s.now.name s.now.op made) }
 {
-    match s.op {
-        Op::Persist { .. } => known.with_result(alloc, &s.name),
-        _ => known.with_vector(alloc, &s.name, made),
+    if s.op.persists() {
+        known.with_result(alloc, &s.name)
+    } else {
+        known.with_vector(alloc, &s.name, made)
     }
 }

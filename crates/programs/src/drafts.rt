@@ -20,7 +20,7 @@ use std::marker::Model;
 use struct_vectors::StructVector;
 
 /// A length and paths, of which none comes before its former neighbour.
-#[derive(Debug, Drop)]
+#[derive(Drop)]
 pub(crate) struct Draft {
     len: u64,
     paths: Vec<Path>,

@@ -15,7 +15,8 @@ ghost use Rattle.programs.specs.Vectors.{tables};
 use crate::drafts::Draft;
 use crate::known::Known;
 use crate::{
-    FoldArgs, Op, Operand, OrderKeys, OrderPath, PairArgs, ProgramKind, RankArgs, Size, Statement,
+    Family, FoldArgs, Op, Operand, OrderKeys, OrderPath, PairArgs, ProgramKind, RankArgs, Size,
+    Statement,
 };
 use io_edge::Name;
 use key_paths::Path;
@@ -63,41 +64,35 @@ pub(crate) fn fault_of(
 fn names_unknown(store: &Store, known: &Known, op: &Op) -> bool
     ensures { result ≡ spec.unknown_name (outlines (tables store.now)) (known_in known.now).vectors op.now }
 {
-    match op {
-        Op::Load { table } => store.table(table).is_none(),
-        Op::Range { size, .. } => size_unknown(known, size),
-        Op::Cross { a, b, .. }
-        | Op::Zip { a, b }
-        | Op::Upsert { a, b, .. }
-        | Op::Gather { a, b, .. } => is_unknown(known, a) || is_unknown(known, b),
-        Op::Scatter { a, size, b, .. } => {
+    match op.family() {
+        Family::Load { table } => store.table(table).is_none(),
+        Family::Persist { a } => is_unknown(known, a),
+        Family::Range { size, .. } => size_unknown(known, size),
+        Family::Cross { a, b, .. } => either_unknown(known, a, b),
+        Family::Zip { a, b } => either_unknown(known, a, b),
+        Family::Project { a, .. } => is_unknown(known, a),
+        Family::Upsert { a, b, .. } => either_unknown(known, a, b),
+        Family::Gather { a, b, .. } => either_unknown(known, a, b),
+        Family::Scatter { a, size, b, .. } => {
             is_unknown(known, a) || size_unknown(known, size) || is_unknown(known, b)
         }
-        Op::Bucket(args) | Op::Partition(args) => {
-            is_unknown(known, &args.a) || is_unknown(known, &args.b)
+        Family::Rank(_, args) => either_unknown(known, &args.a, &args.b),
+        Family::Materialize { a } => is_unknown(known, a),
+        Family::Break { a } => is_unknown(known, a),
+        Family::Fold(_, args) => is_unknown(known, &args.a),
+        Family::Order { a, .. } => is_unknown(known, a),
+        Family::Pair(_, args) => {
+            operand_unknown(known, &args.x) || operand_unknown(known, &args.y)
         }
-        Op::Persist { a }
-        | Op::Project { a, .. }
-        | Op::Materialize { a }
-        | Op::Break { a }
-        | Op::Order { a, .. } => is_unknown(known, a),
-        Op::FoldSum(args)
-        | Op::FoldMin(args)
-        | Op::FoldMax(args)
-        | Op::FoldSelect(args)
-        | Op::FoldScan(args) => is_unknown(known, &args.a),
-        Op::Add(args)
-        | Op::Subtract(args)
-        | Op::Multiply(args)
-        | Op::Divide(args)
-        | Op::Modulo(args)
-        | Op::Greater(args)
-        | Op::Equals(args)
-        | Op::LogicalAnd(args)
-        | Op::LogicalOr(args)
-        | Op::Fill(args) => operand_unknown(known, &args.x) || operand_unknown(known, &args.y),
-        Op::BitShift { x, .. } => operand_unknown(known, x),
+        Family::BitShift { x, .. } => operand_unknown(known, x),
     }
+}
+
+/// Whether one of two names is unknown.
+fn either_unknown(known: &Known, a: &Name, b: &Name) -> bool
+    ensures { result ≡ list_any (λ n. is_none ((known_in known.now).vectors n)) (a.now ∷ b.now ∷ []) }
+{
+    is_unknown(known, a) || is_unknown(known, b)
 }
 
 fn is_unknown(known: &Known, a: &Name) -> bool
@@ -129,28 +124,16 @@ fn operand_unknown(known: &Known, x: &Operand) -> bool
 fn lacks_some_path(known: &Known, op: &Op) -> bool
     ensures { result ≡ spec.no_such_path (known_in known.now).vectors op.now }
 {
-    match op {
-        Op::Project { a, p, .. } => lacks_below(known, a, p),
-        Op::Upsert { b, q, .. } => lacks_path(known, b, q),
-        Op::Gather { b, pos, .. } | Op::Scatter { b, pos, .. } => lacks_path(known, b, pos),
-        Op::Bucket(args) | Op::Partition(args) => lacks_rank(known, args),
-        Op::FoldSum(args)
-        | Op::FoldMin(args)
-        | Op::FoldMax(args)
-        | Op::FoldSelect(args)
-        | Op::FoldScan(args) => lacks_fold(known, args),
-        Op::Order { a, mark, keys, .. } => lacks_order(known, a, mark, keys),
-        Op::Add(args)
-        | Op::Subtract(args)
-        | Op::Multiply(args)
-        | Op::Divide(args)
-        | Op::Modulo(args)
-        | Op::Greater(args)
-        | Op::Equals(args)
-        | Op::LogicalAnd(args)
-        | Op::LogicalOr(args)
-        | Op::Fill(args) => lacks_operand(known, &args.x) || lacks_operand(known, &args.y),
-        Op::BitShift { x, .. } => lacks_operand(known, x),
+    match op.family() {
+        Family::Project { a, p, .. } => lacks_below(known, a, p),
+        Family::Upsert { b, q, .. } => lacks_path(known, b, q),
+        Family::Gather { b, pos, .. } => lacks_path(known, b, pos),
+        Family::Scatter { b, pos, .. } => lacks_path(known, b, pos),
+        Family::Rank(_, args) => lacks_rank(known, args),
+        Family::Fold(_, args) => lacks_fold(known, args),
+        Family::Order { a, mark, keys, .. } => lacks_order(known, a, mark, keys),
+        Family::Pair(_, args) => lacks_operand(known, &args.x) || lacks_operand(known, &args.y),
+        Family::BitShift { x, .. } => lacks_operand(known, x),
         _ => false,
     }
 }
@@ -228,18 +211,9 @@ fn clashes(made: &Option<Draft>) -> bool
 fn has_no_length(op: &Op) -> bool
     ensures { result ≡ spec.no_length op.now }
 {
-    match op {
-        Op::Add(args)
-        | Op::Subtract(args)
-        | Op::Multiply(args)
-        | Op::Divide(args)
-        | Op::Modulo(args)
-        | Op::Greater(args)
-        | Op::Equals(args)
-        | Op::LogicalAnd(args)
-        | Op::LogicalOr(args)
-        | Op::Fill(args) => both_numbers(args),
-        Op::BitShift { x, .. } => is_number(x),
+    match op.family() {
+        Family::Pair(_, args) => both_numbers(args),
+        Family::BitShift { x, .. } => is_number(x),
         _ => false,
     }
 }
@@ -262,8 +236,8 @@ fn is_number(x: &Operand) -> bool
 fn has_many_keys(op: &Op) -> bool
     ensures { result ≡ spec.too_many_keys op.now }
 {
-    match op {
-        Op::Order { keys, .. } => MOST_KEYS < keys.keys().len(),
+    match op.family() {
+        Family::Order { keys, .. } => MOST_KEYS < keys.keys().len(),
         _ => false,
     }
 }
@@ -271,8 +245,9 @@ fn has_many_keys(op: &Op) -> bool
 fn is_twice(known: &Known, s: &Statement) -> bool
     ensures { result ≡ check.name_twice (known_in known.now) s.now.name s.now.op }
 {
-    match s.op {
-        Op::Persist { .. } => known.has_result(&s.name),
-        _ => known.vector(&s.name).is_some(),
+    if s.op.persists() {
+        known.has_result(&s.name)
+    } else {
+        known.vector(&s.name).is_some()
     }
 }

@@ -10,7 +10,7 @@ use std::alloc::{AllocError, Global};
 
 /// A place for each of some names. Contracts see it by `places_of`, a function from a name to its
 /// place.
-#[derive(Debug, Drop)]
+#[derive(Drop)]
 pub struct Index {
     places: IndexMap<String, usize>,
 }

@@ -11,7 +11,7 @@ use std::alloc::Global;
 
 /// The outline of each statement so far, and the names of the vectors and of the results. Contracts
 /// see it by `known_in`.
-#[derive(Debug, Drop)]
+#[derive(Drop)]
 pub struct Known {
     outlines: Vec<Outline>,
     vectors: Index,

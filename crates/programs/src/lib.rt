@@ -9,6 +9,7 @@ use std::alloc::AllocError;
 
 pub mod check;
 mod drafts;
+pub mod family;
 mod faults;
 pub mod index;
 mod known;
@@ -25,6 +26,7 @@ pub mod shape;
 mod tests;
 
 pub use check::ProgramRefusal;
+pub use family::{Family, FoldOperator, RankOperator};
 pub use op::{FoldArgs, Op, Operand, PairArgs, Program, ProgramKind, RankArgs, Size, Statement};
 pub use order_keys::{OrderKeys, OrderPath};
 pub use shape::Shape;

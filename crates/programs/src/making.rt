@@ -11,7 +11,7 @@ use crate::drafts::Draft;
 use crate::known::Known;
 use crate::moving::projected_draft;
 use crate::outline::Outline;
-use crate::{NoMemory, Op, Operand, PairArgs, Size};
+use crate::{Family, NoMemory, Op, Operand, PairArgs, Size};
 use io_edge::Name;
 use key_paths::Path;
 use std::alloc::Global;
@@ -27,39 +27,23 @@ pub(crate) fn made_draft(
 ) -> Result<Option<Draft>, NoMemory>
     ensures { IfOk result (λ d. Drafts d (spec.made_outline (outlines (tables store.now)) (known_in known.now).vectors op.now)) }
 {
-    match op {
-        Op::Load { table } => loaded(alloc, store, table),
-        Op::Persist { .. } => Ok(Some(Draft::none(alloc))),
-        Op::Range { size, out, .. } => one_path(alloc, size_in(known, size), out),
-        Op::Cross { a, p, b, q } => crossed(alloc, known, a, p, b, q),
-        Op::Zip { a, b } => zipped(alloc, known, a, b),
-        Op::Project { a, p, q } => project(alloc, known, a, p, q),
-        Op::Upsert { a, p, .. } => upsert(alloc, known, a, p),
-        Op::Gather { a, b, .. } => same_paths(alloc, known, len_of(known, b), a),
-        Op::Scatter { a, size, .. } => same_paths(alloc, known, size_in(known, size), a),
-        Op::Bucket(args) | Op::Partition(args) => one_path(
-            alloc,
-            len_of(known, &args.a),
-            &args.out,
-        ),
-        Op::Materialize { a } | Op::Break { a } => same_paths(alloc, known, len_of(known, a), a),
-        Op::FoldSum(args)
-        | Op::FoldMin(args)
-        | Op::FoldMax(args)
-        | Op::FoldSelect(args)
-        | Op::FoldScan(args) => one_path(alloc, len_of(known, &args.a), &args.out),
-        Op::Order { a, out, .. } => one_path(alloc, len_of(known, a), out),
-        Op::Add(args)
-        | Op::Subtract(args)
-        | Op::Multiply(args)
-        | Op::Divide(args)
-        | Op::Modulo(args)
-        | Op::Greater(args)
-        | Op::Equals(args)
-        | Op::LogicalAnd(args)
-        | Op::LogicalOr(args)
-        | Op::Fill(args) => one_path(alloc, pair_len(known, args), &args.out),
-        Op::BitShift { x, out, .. } => one_path(alloc, operand_len(known, x), out),
+    match op.family() {
+        Family::Load { table } => loaded(alloc, store, table),
+        Family::Persist { .. } => Ok(Some(Draft::none(alloc))),
+        Family::Range { size, out, .. } => one_path(alloc, size_in(known, size), out),
+        Family::Cross { a, p, b, q } => crossed(alloc, known, a, p, b, q),
+        Family::Zip { a, b } => zipped(alloc, known, a, b),
+        Family::Project { a, p, q } => project(alloc, known, a, p, q),
+        Family::Upsert { a, p, .. } => upsert(alloc, known, a, p),
+        Family::Gather { a, b, .. } => same_paths(alloc, known, len_of(known, b), a),
+        Family::Scatter { a, size, .. } => same_paths(alloc, known, size_in(known, size), a),
+        Family::Rank(_, args) => one_path(alloc, len_of(known, &args.a), &args.out),
+        Family::Materialize { a } => same_paths(alloc, known, len_of(known, a), a),
+        Family::Break { a } => same_paths(alloc, known, len_of(known, a), a),
+        Family::Fold(_, args) => one_path(alloc, len_of(known, &args.a), &args.out),
+        Family::Order { a, out, .. } => one_path(alloc, len_of(known, a), out),
+        Family::Pair(_, args) => one_path(alloc, pair_len(known, args), &args.out),
+        Family::BitShift { x, out, .. } => one_path(alloc, operand_len(known, x), out),
     }
 }
 

@@ -1,7 +1,6 @@
 //! The statements of a program.
 
 ghost use Rattle.std.specs.Prelude.{◌≡◌};
-ghost use Rattle.programs.specs.Mentions.{is_persist};
 
 use crate::order_keys::OrderKeys;
 use control_vectors::ControlVector;
@@ -10,21 +9,21 @@ use key_paths::Path;
 use std::marker::Model;
 
 /// How long a vector is to be: a number of slots, or as long as the named vector.
-#[derive(Debug, Drop)]
+#[derive(Drop)]
 pub enum Size {
     Number(u32),
     Of(Name),
 }
 
 /// What a slot-wise operator reads: an attribute of a vector, or one number for every slot.
-#[derive(Debug, Drop)]
+#[derive(Drop)]
 pub enum Operand {
     Column(Name, Path),
     Number(i128),
 }
 
 /// The two operands of a slot-wise operator, and the attribute that it makes.
-#[derive(Debug, Drop)]
+#[derive(Drop)]
 pub struct PairArgs {
     pub x: Operand,
     pub y: Operand,
@@ -33,7 +32,7 @@ pub struct PairArgs {
 
 /// What a fold reads and makes: the values at `val` of the vector `a`, in runs of what stands at or
 /// below `run`, folded into the attribute `out`.
-#[derive(Debug, Drop)]
+#[derive(Drop)]
 pub struct FoldArgs {
     pub a: Name,
     pub val: Path,
@@ -43,7 +42,7 @@ pub struct FoldArgs {
 
 /// What a Bucket or a Partition reads and makes: the keys at `key` of the vector `a` beside the pivots
 /// at `pivot` of the vector `b`, and the attribute `out`.
-#[derive(Debug, Drop)]
+#[derive(Drop)]
 pub struct RankArgs {
     pub a: Name,
     pub key: Path,
@@ -53,7 +52,7 @@ pub struct RankArgs {
 }
 
 /// An operator with its arguments, in the order of the algebra's text.
-#[derive(Debug, Drop)]
+#[derive(Drop)]
 pub enum Op {
     Load {
         table: Name,
@@ -134,20 +133,8 @@ pub enum Op {
     Fill(PairArgs),
 }
 
-impl Op {
-    /// Whether it names a result.
-    pub fn persists(&self) -> bool
-        ensures { result ≡ is_persist self.now }
-    {
-        match self {
-            Op::Persist { .. } => true,
-            _ => false,
-        }
-    }
-}
-
 /// `name = op`. The name of a `Persist` is the result's.
-#[derive(Debug, Drop)]
+#[derive(Drop)]
 pub struct Statement {
     pub name: Name,
     pub op: Op,
@@ -177,7 +164,7 @@ pub enum ProgramKind {
 }
 
 /// Statements, which are read in order. Contracts see the list of them.
-#[derive(Debug, Drop)]
+#[derive(Drop)]
 pub struct Program {
     statements: Vec<Statement>,
 }

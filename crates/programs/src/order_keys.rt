@@ -4,14 +4,14 @@ use key_paths::Path;
 use std::marker::Model;
 
 /// An attribute by which places are sorted, from its least slot up or from its greatest down.
-#[derive(Debug, Drop)]
+#[derive(Drop)]
 pub struct OrderPath {
     pub path: Path,
     pub descending: bool,
 }
 
 /// The keys of an Order, the first one first. Contracts see the list of them.
-#[derive(Debug, Drop)]
+#[derive(Drop)]
 pub struct OrderKeys {
     keys: Vec<OrderPath>,
 }

@@ -12,7 +12,7 @@ use std::alloc::Global;
 use std::marker::Model;
 
 /// A vector's length and its paths, which ascend; none is the root, another or below another.
-#[derive(Debug, Drop)]
+#[derive(Drop)]
 pub struct Outline {
     len: u64,
     paths: Vec<Path>,

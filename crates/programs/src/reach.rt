@@ -6,7 +6,7 @@ ghost use Rattle.programs.specs.Indexes.{places_of};
 ghost use Rattle.programs.specs.Reaching.{Chooses, AlsoWants};
 
 use crate::index::Index;
-use crate::{NoMemory, Op, Operand, PairArgs, Size, Statement};
+use crate::{Family, NoMemory, Op, Operand, PairArgs, Size, Statement};
 use io_edge::Name;
 use std::alloc::Global;
 
@@ -44,36 +44,23 @@ fn is_wanted(wanted: &Index, s: &Statement) -> bool
 fn mention(alloc: Global, wanted: Index, op: &Op) -> Result<Index, NoMemory>
     ensures { IfOk result (λ now. AlsoWants (places_of wanted) (mentioned op.now) (places_of now)) }
 {
-    match op {
-        Op::Load { .. } => Ok(wanted),
-        Op::Range { size, .. } => mention_size(alloc, wanted, size),
-        Op::Cross { a, b, .. }
-        | Op::Zip { a, b }
-        | Op::Upsert { a, b, .. }
-        | Op::Gather { a, b, .. } => mention_both(alloc, wanted, a, b),
-        Op::Scatter { a, size, b, .. } => mention_scatter(alloc, wanted, a, size, b),
-        Op::Bucket(args) | Op::Partition(args) => mention_both(alloc, wanted, &args.a, &args.b),
-        Op::Persist { a }
-        | Op::Project { a, .. }
-        | Op::Materialize { a }
-        | Op::Break { a }
-        | Op::Order { a, .. } => want(alloc, wanted, a),
-        Op::FoldSum(args)
-        | Op::FoldMin(args)
-        | Op::FoldMax(args)
-        | Op::FoldSelect(args)
-        | Op::FoldScan(args) => want(alloc, wanted, &args.a),
-        Op::Add(args)
-        | Op::Subtract(args)
-        | Op::Multiply(args)
-        | Op::Divide(args)
-        | Op::Modulo(args)
-        | Op::Greater(args)
-        | Op::Equals(args)
-        | Op::LogicalAnd(args)
-        | Op::LogicalOr(args)
-        | Op::Fill(args) => mention_pair(alloc, wanted, args),
-        Op::BitShift { x, .. } => mention_operand(alloc, wanted, x),
+    match op.family() {
+        Family::Load { .. } => Ok(wanted),
+        Family::Persist { a } => want(alloc, wanted, a),
+        Family::Range { size, .. } => mention_size(alloc, wanted, size),
+        Family::Cross { a, b, .. } => mention_both(alloc, wanted, a, b),
+        Family::Zip { a, b } => mention_both(alloc, wanted, a, b),
+        Family::Project { a, .. } => want(alloc, wanted, a),
+        Family::Upsert { a, b, .. } => mention_both(alloc, wanted, a, b),
+        Family::Gather { a, b, .. } => mention_both(alloc, wanted, a, b),
+        Family::Scatter { a, size, b, .. } => mention_scatter(alloc, wanted, a, size, b),
+        Family::Rank(_, args) => mention_both(alloc, wanted, &args.a, &args.b),
+        Family::Materialize { a } => want(alloc, wanted, a),
+        Family::Break { a } => want(alloc, wanted, a),
+        Family::Fold(_, args) => want(alloc, wanted, &args.a),
+        Family::Order { a, .. } => want(alloc, wanted, a),
+        Family::Pair(_, args) => mention_pair(alloc, wanted, args),
+        Family::BitShift { x, .. } => mention_operand(alloc, wanted, x),
     }
 }
 

@@ -12,7 +12,7 @@ use std::marker::Model;
 const MOST_PLACES: u64 = 1 << 22;
 
 /// The outline of each statement's vector, in order. Statements count from 1.
-#[derive(Debug, Drop)]
+#[derive(Drop)]
 pub struct Shape {
     outlines: Vec<Outline>,
 }

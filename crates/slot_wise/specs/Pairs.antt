@@ -5,8 +5,8 @@ use Rattle.std.specs.Option.{option_or}
 use Rattle.std.specs.Ordering.{int_eq}
 use Rattle.control_vectors.specs.Slots.{Slot, Cell, fitted}
 use Rattle.control_vectors.specs.Numbers.{shifted}
-use Rattle.slot_wise.specs.declared.pairing.PairKind.{PairKind}
-use Rattle.slot_wise.specs.declared.pairing.PairKind.TheVariants.{Add, Subtract, Multiply, Divide, Modulo, Greater, Equals, LogicalAnd, LogicalOr, Fill}
+use Rattle.control_vectors.specs.declared.PairKind.{PairKind}
+use Rattle.control_vectors.specs.declared.PairKind.TheVariants.{Add, Subtract, Multiply, Divide, Modulo, Greater, Equals, LogicalAnd, LogicalOr, Fill}
 
 -- empty where either is
 abbrev pub of_both : (ℤ → ℤ → Cell) → Slot → Slot → Cell

@@ -10,7 +10,7 @@ pub mod rules;
 pub mod shifting;
 pub mod source;
 
-pub use pairing::{PairKind, pairs};
+pub use pairing::pairs;
 pub use shifting::shifts;
 pub use source::{Source, common_len};
 

@@ -11,32 +11,10 @@ use crate::rules::{
     subtracted,
 };
 use crate::source::{Source, slot_of};
-use control_vectors::{Over, Slot};
+use control_vectors::{Over, PairKind, Slot};
 use slot_columns::{Stop, column_of};
 use std::alloc::Global;
 use struct_vectors::Column;
-
-/// What is done with the two slots of a place.
-#[derive(Clone, Copy, Debug, PartialEq, Eq)]
-pub enum PairKind {
-    /// The sum, the difference, the product.
-    Add,
-    Subtract,
-    Multiply,
-    /// The quotient, truncated towards zero; empty where the divisor is 0.
-    Divide,
-    /// The rest in 0 to the divisor less 1; empty where the divisor is below 1.
-    Modulo,
-    /// 1 where it holds, else 0.
-    Greater,
-    Equals,
-    /// 0 where either is 0; else empty where either is empty; else 1.
-    LogicalAnd,
-    /// 1 where either is nonempty and not 0; else empty where either is empty; else 0.
-    LogicalOr,
-    /// The first, or the second where the first is empty.
-    Fill,
-}
 
 /// What the operator gives at the places 0 to `n` - 1.
 pub fn pairs(alloc: Global, kind: PairKind, x: Source, y: Source, n: u32) -> Result<Column, Stop>

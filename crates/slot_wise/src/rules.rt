@@ -1,7 +1,7 @@
 //! What each operator gives for two slots.
 ghost use Rattle.std.specs.Prelude.{◌≡◌};
 ghost use Rattle.control_vectors.specs.Slots.{in_128_bits, or_over};
-ghost use Rattle.slot_wise.specs.declared.pairing.PairKind.{PairKind};
+ghost use Rattle.control_vectors.specs.declared.PairKind.{PairKind};
 ghost use Rattle.slot_wise.specs.Pairs.{pair_slot};
 
 use control_vectors::{Over, Slot, add, floor_mod, mul, quot, sub};

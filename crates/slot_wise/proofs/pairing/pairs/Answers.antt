@@ -1,4 +1,4 @@
-use Rattle.slot_wise.specs.declared.pairing.PairKind.TheVariants.{Add, Subtract, Multiply, Divide, Modulo, Greater, Equals, LogicalAnd, LogicalOr, Fill}
+use Rattle.control_vectors.specs.declared.PairKind.TheVariants.{Add, Subtract, Multiply, Divide, Modulo, Greater, Equals, LogicalAnd, LogicalOr, Fill}
 use Rattle.slot_wise.specs.Pairs.{pair_slot}
 use Rattle.slot_wise.proofs.pairing.pairs.Goals as goal
 
