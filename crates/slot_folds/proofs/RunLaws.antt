@@ -14,7 +14,8 @@ use Rattle.slot_columns.specs.Builders.{BuilderValue}
 use Rattle.slot_columns.specs.Stops.{StopsAt}
 use Rattle.slot_folds.specs.declared.folding.Job.{Job}
 use Rattle.slot_folds.specs.declared.folding.Job.TheVariants.{Fold, Select, Scan}
-use Rattle.slot_folds.specs.Runs.{joined, runs, unmarked}
+use Rattle.control_vectors.specs.Runs.{joined, runs}
+use Rattle.slot_folds.specs.Jobs.{unmarked}
 use Rattle.slot_folds.specs.Folds.{holds, chosen, fold_run, select_run, scan_cell, scan_run}
 use Rattle.slot_folds.specs.Jobs.{job_from, job_run, places_of, Extends}
 

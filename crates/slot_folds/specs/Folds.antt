@@ -5,7 +5,7 @@ use Rattle.std.specs.Ordering.{int_eq}
 use Rattle.control_vectors.specs.Slots.{Slot, Cell, fitted, numbers}
 use Rattle.control_vectors.specs.Folds.{fold_slots, total_of}
 use Rattle.control_vectors.specs.declared.FoldKind.{FoldKind}
-use Rattle.slot_folds.specs.Runs.{runs}
+use Rattle.control_vectors.specs.Runs.{runs}
 
 -- ---- FoldSum, FoldMin and FoldMax: the fold of a run's nonempty slots at its first place, and empty slots behind it
 abbrev pub fold_run : FoldKind → List Slot → List Cell

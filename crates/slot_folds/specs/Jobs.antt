@@ -11,7 +11,7 @@ use Rattle.slot_columns.specs.declared.stop.Stop.TheVariants.{NoMemory, Overflow
 use Rattle.slot_columns.specs.Builders.{BuilderValue}
 use Rattle.slot_folds.specs.declared.folding.Job.{Job}
 use Rattle.slot_folds.specs.declared.folding.Job.TheVariants.{Fold, Select, Scan}
-use Rattle.slot_folds.specs.Runs.{runs}
+use Rattle.control_vectors.specs.Runs.{runs}
 use Rattle.slot_folds.specs.Folds.{holds, fold_run, select_run, scan_run}
 
 -- a sum with one more slot, which adds nothing where it is empty
@@ -78,3 +78,9 @@ picked s i = if holds s then i ∷ [] else []
 abbrev pub total_at : ℤ → Slot → Cell
 total_at z None = Ok None
 total_at z (Some x) = fitted z
+
+-- how many places stand before the first mark
+abbrev pub unmarked : List Bool → ℕ
+unmarked [] = 0
+unmarked (true ∷ marks) = 0
+unmarked (false ∷ marks) = suc (unmarked marks)

@@ -1,6 +1,6 @@
 //! Where runs end.
 ghost use Rattle.std.specs.Prelude.{◌≡◌, ◌+◌, ◌<◌, ◌≤◌, length, drop};
-ghost use Rattle.slot_folds.specs.Runs.{unmarked};
+ghost use Rattle.slot_folds.specs.Jobs.{unmarked};
 
 /// The place behind the run that begins at a place: the next mark's, or the end.
 pub(crate) fn run_end(marks: &[bool], from: usize) -> usize

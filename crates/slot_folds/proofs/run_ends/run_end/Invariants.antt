@@ -1,5 +1,5 @@
 use Rattle.std.proofs.Common.{◌≡◌, ◌+◌, ◌-◌, ◌≤◌, length, drop}
-use Rattle.slot_folds.specs.Runs.{unmarked}
+use Rattle.slot_folds.specs.Jobs.{unmarked}
 use Rattle.slot_folds.proofs.run_ends.run_end.Given as goal
 
 abbrev pub invariant-loop-to : goal.invariant-loop-to
