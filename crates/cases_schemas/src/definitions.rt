@@ -3,17 +3,10 @@
 ghost use Rattle.std.specs.Prelude.{◌<◌, ◌^◌, length};
 
 use crate::kinds::show_sql_refusal;
+use case_names::column_kind_name;
 use case_text::show_count;
-use sql_read::{ColumnDef, ColumnKind, KeyDef, TableDef, read_schema};
+use sql_read::{ColumnDef, KeyDef, TableDef, read_schema};
 use std::alloc::{AllocError, Global};
-
-fn column_kind_name(kind: ColumnKind) -> &'static str {
-    match kind {
-        ColumnKind::Integer => "integer",
-        ColumnKind::Date => "date",
-        ColumnKind::Text => "text",
-    }
-}
 
 /// A word and the byte at which it stands: `word@byte`.
 fn show_at(out: &mut String, word: &str, at: u32) -> Result<(), AllocError> {

@@ -1,21 +1,10 @@
 //! The kinds of refusals by name.
 
+use case_names::sql_kind_name;
 use case_text::show_count;
-use sql_read::{SqlKind, SqlRefusal};
+use sql_read::SqlRefusal;
 use sql_types::{SchemaKind, SchemaRefusal};
 use std::alloc::AllocError;
-
-fn sql_kind_name(kind: SqlKind) -> &'static str {
-    match kind {
-        SqlKind::NotText => "NotText",
-        SqlKind::BadToken => "BadToken",
-        SqlKind::NumberTooWide => "NumberTooWide",
-        SqlKind::TooLong => "TooLong",
-        SqlKind::Unexpected => "Unexpected",
-        SqlKind::TooDeep => "TooDeep",
-        SqlKind::DateRange => "DateRange",
-    }
-}
 
 fn schema_kind_name(kind: SchemaKind) -> &'static str {
     match kind {
