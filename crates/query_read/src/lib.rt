@@ -21,6 +21,3 @@ mod query_text;
 mod sources;
 
 pub use query_text::read_query;
-
-#[cfg(test)]
-mod tests;
