@@ -20,6 +20,3 @@ mod typing;
 pub use kinds::Kind;
 pub use query::type_query;
 pub use refusal::{TypeKind, TypeRefusal};
-
-#[cfg(test)]
-mod tests;

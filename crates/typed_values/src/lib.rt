@@ -8,6 +8,3 @@ mod sums;
 
 pub use bounds::cannot_overflow;
 pub use sums::{SumAsked, sum_asked};
-
-#[cfg(test)]
-mod tests;
