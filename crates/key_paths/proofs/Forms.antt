@@ -8,9 +8,8 @@ use Rattle.std.proofs.lemmas.List.{length-append}
 use Rattle.std.proofs.lemmas.List.Splits.{slice_split_none, slice_split_at}
 use Rattle.std.proofs.lemmas.Slice.Eq.{bytes_eq-Decides}
 use Rattle.std.proofs.lemmas.Str.{IsUtf8-from_ascii}
-use Rattle.std.proofs.lemmas.Str.Ascii.{IsAscii-nil, IsAscii-cons}
 use Rattle.key_paths.specs.Paths.{is_dot, begins_segment, is_in_segment, is_segment, joined, path_text, IsPath, nonempty_tail, segments_of, is_path}
-use Rattle.key_paths.proofs.Bools.{all_weaker, all_both, none_passes}
+use Rattle.key_paths.proofs.Bools.{all_weaker, all_both, all_ascii, none_passes}
 
 -- ---- segments
 pub begins_inside : (b : ℕ) → begins_segment b ≡ true → is_in_segment b ≡ true
@@ -44,10 +43,7 @@ path_small : (b : ℕ) → is_in_path b ≡ true → b < 128
 path_small b h = grind (arith, nat_tests)
 
 pub path_ascii : (w : List ℕ) → list_all is_in_path w ≡ true → IsAscii w
-path_ascii [] h = IsAscii-nil
-path_ascii (b ∷ w) h =
-    let both = and_parts (is_in_path b) (list_all is_in_path w) h in
-    IsAscii-cons b w (path_small b both.0) (path_ascii w both.1)
+path_ascii w h = all_ascii is_in_path path_small w h
 
 inside_path : (b : ℕ) → is_in_segment b ≡ true → is_in_path b ≡ true
 inside_path b h = or_left (is_in_segment b) (is_dot b) h

@@ -4,6 +4,7 @@ pub mod Tokens
 pub mod SameKinds
 pub mod Lexing
 pub mod Spelling
+pub mod Words
 pub mod RoundTrip
 pub mod ReadingLines
 pub mod OneToken
@@ -13,3 +14,4 @@ pub mod LineRules
 pub mod WholeLines
 pub mod FirstRefusals
 pub mod LineLaws
+pub mod Examples

@@ -15,7 +15,7 @@ use Rattle.voodoo_text.specs.declared.operator.SingleOperator.TheVariants as s
 use Rattle.voodoo_text.specs.Kinds.{same_kind}
 use Rattle.voodoo_text.specs.Values.{integer_within, natural_within}
 use Rattle.voodoo_text.specs.Tokens.{Token}
-use Rattle.voodoo_text.specs.Operators.{paired, folded, ranked}
+use Rattle.programs.specs.Families.{pair_of, fold_of, rank_of}
 use Rattle.voodoo_text.specs.Places as p
 use Rattle.voodoo_text.specs.Places.{Parser, is}
 use Rattle.voodoo_text.specs.Statements as st
@@ -57,6 +57,15 @@ integer least most zero = rule_number (pos 0) (integer_within least most) zero
 natural : (most : ℕ) → natural_within most (48 ∷ []) ≡ Some 0 → {stop : Token → Bool} → Rule (place.natural ranges most) (place.natural order_alone most) stop (p.number (natural_within most))
 natural most zero = rule_number 0 (natural_within most) zero
 
+attribute : {stop : Token → Bool} → Rule place.attribute place.attribute stop p.attribute
+unfolding p.attribute
+attribute = after name (λ a. after (next path) (λ q. ends _))
+
+control : {stop : Token → Bool} → Rule (place.control ranges) (place.control order_alone) stop p.control
+unfolding p.control
+control = after (integer (2 ^ 63) (2 ^ 63 - 1) refl) (λ start. after (next (natural (2 ^ 64 - 1) refl))
+    (λ step. after (next (natural (2 ^ 64 - 1) refl)) (λ modulus. after (next (natural (2 ^ 64 - 1) refl)) (λ divisor. ends _))))
+
 descends : {stop : Token → Bool} → Rule place.descends place.descends stop p.descends
 unfolding p.descends same_kind
 descends = choice (is k.Minus)
@@ -87,12 +96,11 @@ load = after name (λ t. ends (op.Load t))
 
 range : {stop : Token → Bool} → Rule (g.range ranges) (g.range order_alone) stop st.range
 unfolding st.range
-range = after size (λ n. after (next path) (λ out. after (next (integer (2 ^ 63) (2 ^ 63 - 1) refl)) (λ start. after (next (natural (2 ^ 64 - 1) refl))
-    (λ step. after (next (natural (2 ^ 64 - 1) refl)) (λ modulus. after (next (natural (2 ^ 64 - 1) refl)) (λ divisor. ends _))))))
+range = after size (λ n. after (next path) (λ out. after (next control) (λ c. ends _)))
 
 cross : {stop : Token → Bool} → Rule g.cross g.cross stop st.cross
 unfolding st.cross
-cross = after name (λ a. after (next path) (λ q. after (next name) (λ b. after (next path) (λ r. ends _))))
+cross = after attribute (λ v. after (next attribute) (λ w. ends _))
 
 zip : {stop : Token → Bool} → Rule g.zip g.zip stop st.zip
 unfolding st.zip
@@ -100,23 +108,23 @@ zip = after name (λ a. after (next name) (λ b. ends _))
 
 project : {stop : Token → Bool} → Rule g.project g.project stop st.project
 unfolding st.project
-project = after name (λ a. after (next path) (λ q. after (next path) (λ r. ends _)))
+project = after attribute (λ v. after (next path) (λ r. ends _))
 
 upsert : {stop : Token → Bool} → Rule g.upsert g.upsert stop st.upsert
 unfolding st.upsert
-upsert = after name (λ a. after (next path) (λ q. after (next name) (λ b. after (next path) (λ r. ends _))))
+upsert = after attribute (λ v. after (next attribute) (λ w. ends _))
 
 gather : {stop : Token → Bool} → Rule g.gather g.gather stop st.gather
 unfolding st.gather
-gather = after name (λ a. after (next name) (λ b. after (next path) (λ r. ends _)))
+gather = after name (λ a. after (next attribute) (λ w. ends _))
 
 scatter : {stop : Token → Bool} → Rule (g.scatter ranges) (g.scatter order_alone) stop st.scatter
 unfolding st.scatter
-scatter = after name (λ a. after (next size) (λ n. after (next name) (λ b. after (next path) (λ r. ends _))))
+scatter = after name (λ a. after (next size) (λ n. after (next attribute) (λ w. ends _)))
 
 rank : {stop : Token → Bool} → Rule g.rank g.rank stop st.rank
 unfolding st.rank
-rank = after name (λ a. after (next path) (λ q. after (next name) (λ b. after (next path) (λ pivot. after (next path) (λ out. ends _)))))
+rank = after attribute (λ v. after (next attribute) (λ w. after (next path) (λ out. ends _)))
 
 materialize : {stop : Token → Bool} → Rule g.materialize g.materialize stop st.materialize
 unfolding st.materialize
@@ -128,11 +136,11 @@ break_ = after name (λ a. ends _)
 
 fold : {stop : Token → Bool} → Rule g.fold g.fold stop st.fold
 unfolding st.fold
-fold = after name (λ a. after (next path) (λ val. after (next path) (λ run. after (next path) (λ out. ends _))))
+fold = after attribute (λ v. after (next path) (λ run. after (next path) (λ out. ends _)))
 
 order : Rule g.order g.order (is k.Comma) st.order
 unfolding st.order
-order = after name (λ a. after (next path) (λ mark. after (next path) (λ out. made (op.Order a mark out) keys)))
+order = after attribute (λ v. after (next path) (λ out. made (op.Order v.vector v.path out) keys))
 
 pair : {stop : Token → Bool} → Rule (g.pair ranges) (g.pair order_alone) stop st.pair
 unfolding st.pair
@@ -161,6 +169,6 @@ pub arguments : (a : Operator) → Rule (g.arguments ranges a) (g.arguments orde
 unfolding st.arguments
 arguments o.Range = range
 arguments (o.Single a) = made (λ op. Some op) (single a)
-arguments (o.Rank a) = made (λ args. Some (ranked a args)) rank
-arguments (o.Fold a) = made (λ args. Some (folded a args)) fold
-arguments (o.Pair a) = made (λ args. Some (paired a args)) pair
+arguments (o.Rank a) = made (λ args. Some (rank_of a args)) rank
+arguments (o.Fold a) = made (λ args. Some (fold_of a args)) fold
+arguments (o.Pair a) = made (λ args. Some (pair_of a args)) pair

@@ -1,7 +1,8 @@
 -- A program's text is read as that program, each statement on a line of its own.
+use Rattle.phrases.specs.Parsers.{pure, ◌>>=◌}
 use Rattle.std.proofs.Common.{◌≡◌, ℕ, ℤ, pos, negsuc, ◌^◌, ◌+◌, ◌-◌, ◌<◌, true, false, not, List, [], ◌∷◌, ◌++◌, length, map, lit<, refl, ap, sym, ◌∙◌, arith, append_assoc, append-nil}
-use Rattle.std.specs.Prelude.{Some, Result, Ok, codes, neg_ℤ, ◌≤ℤ◌, nat_lt, ◌==◌}
-use Rattle.std.specs.Fmt.{signed_decimal}
+use Rattle.std.specs.Prelude.{Option, Some, Result, Ok, codes, neg_ℤ, ◌≤ℤ◌, nat_lt, ◌==◌}
+use Rattle.std.specs.Fmt.{decimal, signed_decimal}
 use Rattle.std.specs.List.{list_all, range_with_len}
 use Rattle.std.specs.Option.{option_map}
 use Rattle.std.specs.Str.{bytes_eq, IsAscii}
@@ -11,7 +12,6 @@ use Rattle.std.proofs.lemmas.Int.{ints}
 use Rattle.std.proofs.lemmas.List.Splits.{slice_split_at}
 use Rattle.std.proofs.lemmas.Str.{IsUtf8-from_ascii, IsAscii-append, is_utf8-from_IsUtf8}
 use Rattle.std.proofs.lemmas.Str.Ascii.{IsAscii-nil, IsAscii-cons}
-use Rattle.phrases.specs.Parsers.{pure}
 use Rattle.control_vectors.specs.Controls.{Control, IsAdmissible}
 use Rattle.key_paths.specs.Paths.{IsPath}
 use Rattle.programs.specs.declared.op.Size.{Size}
@@ -28,26 +28,32 @@ use Rattle.programs.specs.declared.op.Statement.{Statement}
 use Rattle.voodoo_text.specs.declared.kind.Kind.TheVariants as k
 use Rattle.voodoo_text.specs.declared.operator.Operator.{Operator}
 use Rattle.voodoo_text.specs.declared.operator.Operator.TheVariants as o
+use Rattle.voodoo_text.specs.declared.operator.SingleOperator.{SingleOperator}
 use Rattle.voodoo_text.specs.declared.operator.SingleOperator.TheVariants as s
-use Rattle.voodoo_text.specs.declared.operator.RankOperator.TheVariants as r
-use Rattle.voodoo_text.specs.declared.operator.FoldOperator.TheVariants as f
-use Rattle.voodoo_text.specs.declared.operator.PairOperator.TheVariants as q
+use Rattle.programs.specs.declared.family.RankOperator.{RankOperator}
+use Rattle.programs.specs.declared.family.RankOperator.TheVariants as r
+use Rattle.programs.specs.declared.family.FoldOperator.{FoldOperator}
+use Rattle.programs.specs.declared.family.FoldOperator.TheVariants as f
+use Rattle.control_vectors.specs.declared.PairKind.{PairKind}
+use Rattle.control_vectors.specs.declared.PairKind.TheVariants as q
+use Rattle.programs.specs.Families.{family, pair_of, fold_of, rank_of}
 use Rattle.voodoo_text.specs.Kinds.{same_kind}
-use Rattle.voodoo_text.specs.Values.{Bytes, is_start, admitted}
+use Rattle.voodoo_text.specs.Values.{Bytes, integer_within, natural_within, is_start, admitted}
 use Rattle.voodoo_text.specs.Tokens.{Token, token, tokens_from, tokens}
-use Rattle.voodoo_text.specs.Operators.{operator_of}
-use Rattle.voodoo_text.specs.Places.{expect, name, path, size, operand}
+use Rattle.voodoo_text.specs.Operators.{operator_of, operator_word, single_word, rank_word, fold_word, pair_word}
+use Rattle.voodoo_text.specs.Places.{Parser, expect, name, path, control, size, operand, number, next}
 use Rattle.voodoo_text.specs.Statements as spec
 use Rattle.voodoo_text.specs.Statements.{arguments, statement, line_of}
-use Rattle.voodoo_text.specs.Canonical.{operator_word, pair_arguments, fold_arguments, rank_arguments, range_arguments, target, listed, call, statement_text, line, text_of}
+use Rattle.voodoo_text.specs.Canonical.{pair_arguments, fold_arguments, rank_arguments, range_arguments, target, listed, call, statement_text, line, text_of}
 use Rattle.voodoo_text.specs.Canonical as canonical
 use Rattle.voodoo_text.specs.Spelled.{IsName, IsShift, HasNames, PairHasNames, RankHasNames, SizeHasName, OperandHasName, CanBeSpelled, InRange, PairInRange, FoldInRange, RankInRange, SizeInRange, OperandInRange, KeysInRange, HasRanges}
 use Rattle.voodoo_text.specs.Reading.{is_feed, lines, read, on_line, with_statement, with_line, read_lines, read_text}
 use Rattle.voodoo_text.specs.Laws.{line_by_line, IsTextOf, TextLaws}
-use Rattle.key_paths.proofs.Bools.{all_both, none_passes, all_weaker}
+use Rattle.key_paths.proofs.Bools.{all_ascii, all_both, none_passes, all_weaker}
 use Rattle.voodoo_text.proofs.Numbers.{Within}
+use Rattle.voodoo_text.proofs.Words.{word_named, word_name}
 use Rattle.voodoo_text.proofs.Lexing.{comma_ends, close_ends, name_ends, name_then, open_then, equal_then, comma_then, close_then}
-use Rattle.voodoo_text.proofs.Spelling.{is_plain, Listed, Others, nothing_more, one_more, first_one, and_made, keys_more, name_spells, path_spells, size_spells, operand_spells, integer_spells, natural_spells, plain_name}
+use Rattle.voodoo_text.proofs.Spelling.{is_plain, others_group, next_group, first_attribute, next_attribute, Listed, Others, nothing_more, one_more, first_one, and_made, keys_more, name_spells, path_spells, size_spells, operand_spells, integer_spells, natural_spells, plain_name}
 
 -- ---- the arguments of each operator
 
@@ -67,18 +73,42 @@ within_shift : (z : ℤ) → IsShift z → Within 127 127 z
 within_shift (pos n) h = omega (arith, ints)
 within_shift (negsuc n) h = omega (arith, ints)
 
+abbrev natural : Parser ℕ
+natural = number (natural_within (2 ^ 64 - 1))
+
+-- the numbers of a control vector are four arguments
+control_more : {B : Type 0} (g : Option Control → Parser B) (v : Control) (b : B) → IsAdmissible v → Others (g (Some v)) [] b
+    → Others (next control >>= g) (signed_decimal v.start ∷ decimal v.step ∷ decimal v.modulus ∷ decimal v.divisor ∷ []) b
+unfolding control
+control_more g v b adm others =
+    next_group (number (integer_within (2 ^ 63) (2 ^ 63 - 1))) from_start g _ b
+    (one_more _ (λ x. from_start x >>= g) _ _ v.start _ (integer_spells (2 ^ 63) (2 ^ 63 - 1) v.start (lit< tt) (lit< tt) (within_start v.start adm.start_from adm.start_to))
+    (others_group (next natural) (from_step v.start) g _ b
+    (one_more _ (λ x. from_step v.start x >>= g) _ _ v.step _ (natural_spells (2 ^ 64 - 1) v.step (lit< tt) (omega (arith, adm.step_to)))
+    (others_group (next natural) (from_modulus v.start v.step) g _ b
+    (one_more _ (λ x. from_modulus v.start v.step x >>= g) _ _ v.modulus _ (natural_spells (2 ^ 64 - 1) v.modulus (lit< tt) (omega (arith, adm.modulus_to)))
+    (others_group (next natural) (from_divisor v.start v.step v.modulus) g _ b
+    (one_more _ (λ x. from_divisor v.start v.step v.modulus x >>= g) _ _ v.divisor _ (natural_spells (2 ^ 64 - 1) v.divisor (lit< tt) (omega (arith, adm.divisor_to)))
+    (record { reads = λ rest. ap (λ c. g c (tokens_from false 0 (41 ∷ rest))) (admitted_is v adm) ∙ others.reads rest; inside = others.inside }))))))))
+  where
+    from_divisor : ℤ → ℕ → ℕ → ℕ → Parser (Option Control)
+    from_divisor start step modulus divisor = pure (admitted start step modulus divisor)
+
+    from_modulus : ℤ → ℕ → ℕ → Parser (Option Control)
+    from_modulus start step modulus = next natural >>= from_divisor start step modulus
+
+    from_step : ℤ → ℕ → Parser (Option Control)
+    from_step start step = next natural >>= from_modulus start step
+
+    from_start : ℤ → Parser (Option Control)
+    from_start start = next natural >>= from_step start
+
 range_listed : (n : Size) (out : Bytes) (v : Control) → SizeHasName n → SizeInRange n → IsPath out → IsAdmissible v → Listed spec.range (range_arguments n out v) (Some (Range n out v))
 unfolding spec.range
 range_listed n out v named ranged is adm =
-    let made : Others (pure (option_map (Range n out) (admitted v.start v.step v.modulus v.divisor))) [] (Some (Range n out v)) =
-    record { reads = λ rest. ap (λ c. Ok (option_map (Range n out) c, tokens_from false 0 (41 ∷ rest))) (admitted_is v adm); inside = refl } in
     first_one size _ _ _ n _ (size_spells n named ranged)
     (one_more path _ _ _ out _ (path_spells out is)
-    (one_more _ _ _ _ v.start _ (integer_spells (2 ^ 63) (2 ^ 63 - 1) v.start (lit< tt) (lit< tt) (within_start v.start adm.start_from adm.start_to))
-    (one_more _ _ _ _ v.step _ (natural_spells (2 ^ 64 - 1) v.step (lit< tt) (omega (arith, adm.step_to)))
-    (one_more _ _ _ _ v.modulus _ (natural_spells (2 ^ 64 - 1) v.modulus (lit< tt) (omega (arith, adm.modulus_to)))
-    (one_more _ _ _ _ v.divisor _ (natural_spells (2 ^ 64 - 1) v.divisor (lit< tt) (omega (arith, adm.divisor_to)))
-    made)))))
+    (control_more (λ c. pure (option_map (Range n out) c)) v (Some (Range n out v)) adm (nothing_more (Some (Range n out v)))))
 
 pair_listed : (args : PairArgs) → PairHasNames args → PairInRange args → Listed spec.pair (pair_arguments args) args
 unfolding spec.pair
@@ -90,19 +120,16 @@ pair_listed args names ranges =
 fold_listed : (args : FoldArgs) → IsName args.a → FoldInRange args → Listed spec.fold (fold_arguments args) args
 unfolding spec.fold
 fold_listed args named ranges =
-    first_one name _ _ _ args.a _ (name_spells args.a named)
-    (one_more path _ _ _ args.val _ (path_spells args.val ranges.0)
+    first_attribute _ args.a args.val _ _ named ranges.0
     (one_more path _ _ _ args.run _ (path_spells args.run ranges.1)
-    (one_more path _ _ _ args.out _ (path_spells args.out ranges.2) (nothing_more args))))
+    (one_more path _ _ _ args.out _ (path_spells args.out ranges.2) (nothing_more args)))
 
 pub rank_listed : (args : RankArgs) → RankHasNames args → RankInRange args → Listed spec.rank (rank_arguments args) args
 unfolding spec.rank
 rank_listed args names ranges =
-    first_one name _ _ _ args.a _ (name_spells args.a names.0)
-    (one_more path _ _ _ args.key _ (path_spells args.key ranges.0)
-    (one_more name _ _ _ args.b _ (name_spells args.b names.1)
-    (one_more path _ _ _ args.pivot _ (path_spells args.pivot ranges.1)
-    (one_more path _ _ _ args.out _ (path_spells args.out ranges.2) (nothing_more args)))))
+    first_attribute _ args.a args.key _ _ names.0 ranges.0
+    (next_attribute _ args.b args.pivot _ _ names.1 ranges.1
+    (one_more path _ _ _ args.out _ (path_spells args.out ranges.2) (nothing_more args)))
 
 load_listed : (t : Bytes) → IsName t → Listed spec.load (t ∷ []) (Load t)
 unfolding spec.load
@@ -111,10 +138,7 @@ load_listed t h = first_one name _ _ _ t _ (name_spells t h) (nothing_more (Load
 cross_listed : (a p b q : Bytes) → IsName a × IsName b → IsPath p × IsPath q → Listed spec.cross (a ∷ p ∷ b ∷ q ∷ []) (Cross a p b q)
 unfolding spec.cross
 cross_listed a p b q names ranges =
-    first_one name _ _ _ a _ (name_spells a names.0)
-    (one_more path _ _ _ p _ (path_spells p ranges.0)
-    (one_more name _ _ _ b _ (name_spells b names.1)
-    (one_more path _ _ _ q _ (path_spells q ranges.1) (nothing_more (Cross a p b q)))))
+    first_attribute _ a p _ _ names.0 ranges.0 (next_attribute _ b q _ _ names.1 ranges.1 (nothing_more (Cross a p b q)))
 
 zip_listed : (a b : Bytes) → IsName a × IsName b → Listed spec.zip (a ∷ b ∷ []) (Zip a b)
 unfolding spec.zip
@@ -122,33 +146,24 @@ zip_listed a b names = first_one name _ _ _ a _ (name_spells a names.0) (one_mor
 
 project_listed : (a p q : Bytes) → IsName a → IsPath p × IsPath q → Listed spec.project (a ∷ p ∷ q ∷ []) (Project a p q)
 unfolding spec.project
-project_listed a p q named ranges =
-    first_one name _ _ _ a _ (name_spells a named)
-    (one_more path _ _ _ p _ (path_spells p ranges.0)
-    (one_more path _ _ _ q _ (path_spells q ranges.1) (nothing_more (Project a p q))))
+project_listed a p q named ranges = first_attribute _ a p _ _ named ranges.0 (one_more path _ _ _ q _ (path_spells q ranges.1) (nothing_more (Project a p q)))
 
 upsert_listed : (a p b q : Bytes) → IsName a × IsName b → IsPath p × IsPath q → Listed spec.upsert (a ∷ p ∷ b ∷ q ∷ []) (Upsert a p b q)
 unfolding spec.upsert
 upsert_listed a p b q names ranges =
-    first_one name _ _ _ a _ (name_spells a names.0)
-    (one_more path _ _ _ p _ (path_spells p ranges.0)
-    (one_more name _ _ _ b _ (name_spells b names.1)
-    (one_more path _ _ _ q _ (path_spells q ranges.1) (nothing_more (Upsert a p b q)))))
+    first_attribute _ a p _ _ names.0 ranges.0 (next_attribute _ b q _ _ names.1 ranges.1 (nothing_more (Upsert a p b q)))
 
 gather_listed : (a b at : Bytes) → IsName a × IsName b → IsPath at → Listed spec.gather (a ∷ b ∷ at ∷ []) (Gather a b at)
 unfolding spec.gather
 gather_listed a b at names is =
-    first_one name _ _ _ a _ (name_spells a names.0)
-    (one_more name _ _ _ b _ (name_spells b names.1)
-    (one_more path _ _ _ at _ (path_spells at is) (nothing_more (Gather a b at))))
+    first_one name _ _ _ a _ (name_spells a names.0) (next_attribute _ b at _ _ names.1 is (nothing_more (Gather a b at)))
 
 scatter_listed : (a : Bytes) (n : Size) (b at : Bytes) → IsName a × SizeHasName n × IsName b → SizeInRange n × IsPath at → Listed spec.scatter (a ∷ canonical.size_text n ∷ b ∷ at ∷ []) (Scatter a n b at)
 unfolding spec.scatter
 scatter_listed a n b at names ranges =
     first_one name _ _ _ a _ (name_spells a names.0)
     (one_more size _ _ _ n _ (size_spells n names.1 ranges.0)
-    (one_more name _ _ _ b _ (name_spells b names.2)
-    (one_more path _ _ _ at _ (path_spells at ranges.1) (nothing_more (Scatter a n b at)))))
+    (next_attribute _ b at _ _ names.2 ranges.1 (nothing_more (Scatter a n b at))))
 
 materialize_listed : (a : Bytes) → IsName a → Listed spec.materialize (a ∷ []) (Materialize a)
 unfolding spec.materialize
@@ -161,9 +176,8 @@ break_listed a h = first_one name _ _ _ a _ (name_spells a h) (nothing_more (Bre
 order_listed : (a mark out : Bytes) (ks : List OrderPath) → IsName a → IsPath mark × IsPath out × KeysInRange ks → Listed spec.order (a ∷ mark ∷ out ∷ map canonical.key_text ks) (Order a mark out ks)
 unfolding spec.order
 order_listed a mark out ks named ranges =
-    first_one name _ _ _ a _ (name_spells a named)
-    (one_more path _ _ _ mark _ (path_spells mark ranges.0)
-    (one_more path _ _ _ out _ (path_spells out ranges.1) (keys_more (Order a mark out) ks ranges.2)))
+    first_attribute _ a mark _ _ named ranges.0
+    (one_more path _ _ _ out _ (path_spells out ranges.1) (keys_more (Order a mark out) ks ranges.2))
 
 shift_listed : (x : Operand) (by : ℤ) (out : Bytes) → OperandHasName x × IsShift by → OperandInRange x × IsPath out → Listed spec.bit_shift (canonical.operand_text x ∷ signed_decimal by ∷ out ∷ []) (BitShift x by out)
 unfolding spec.bit_shift
@@ -223,49 +237,71 @@ persist_reads n a h is = record {
 
 -- ---- statements
 
-pub statement_reads : (n : Bytes) (op : Op) → IsName n → HasNames op → InRange op → LineReads (statement_text (statement n op)) (statement n op)
-unfolding operator_of arguments spec.single
-statement_reads n (Load t) h names ranges = assigned_reads n (codes "Load") (o.Single s.Load) _ _ h refl refl (and_made spec.load Some _ _ (load_listed t names))
+abbrev Reads : Bytes → Op → Type 0
+Reads n op = LineReads (statement_text (statement n op)) (statement n op)
+
+operator_reads : (n : Bytes) (a : Operator) (ws : List Bytes) (op : Op) → IsName n → Listed (arguments a) ws (Some op) → LineReads ((n ++ codes " = ") ++ call (operator_word a) ws) (statement n op)
+operator_reads n a ws op h l = assigned_reads n (operator_word a) a ws op h (word_name a) (word_named a) l
+
+single_reads : (n : Bytes) (a : SingleOperator) (ws : List Bytes) (op : Op) → IsName n → Listed (spec.single a) ws op → LineReads ((n ++ codes " = ") ++ call (single_word a) ws) (statement n op)
+unfolding arguments
+single_reads n a ws op h l = operator_reads n (o.Single a) ws op h (and_made (spec.single a) Some ws op l)
+
+rank_reads : (n : Bytes) (kind : RankOperator) (args : RankArgs) → IsName n → RankHasNames args → RankInRange args → LineReads ((n ++ codes " = ") ++ call (rank_word kind) (rank_arguments args)) (statement n (rank_of kind args))
+unfolding arguments
+rank_reads n kind args h names ranges = operator_reads n (o.Rank kind) _ _ h (and_made spec.rank (λ x. Some (rank_of kind x)) _ _ (rank_listed args names ranges))
+
+fold_reads : (n : Bytes) (kind : FoldOperator) (args : FoldArgs) → IsName n → IsName args.a → FoldInRange args → LineReads ((n ++ codes " = ") ++ call (fold_word kind) (fold_arguments args)) (statement n (fold_of kind args))
+unfolding arguments
+fold_reads n kind args h names ranges = operator_reads n (o.Fold kind) _ _ h (and_made spec.fold (λ x. Some (fold_of kind x)) _ _ (fold_listed args names ranges))
+
+pair_reads : (n : Bytes) (kind : PairKind) (args : PairArgs) → IsName n → PairHasNames args → PairInRange args → LineReads ((n ++ codes " = ") ++ call (pair_word kind) (pair_arguments args)) (statement n (pair_of kind args))
+unfolding arguments
+pair_reads n kind args h names ranges = operator_reads n (o.Pair kind) _ _ h (and_made spec.pair (λ x. Some (pair_of kind x)) _ _ (pair_listed args names ranges))
+
+pub statement_reads : (n : Bytes) (op : Op) → IsName n → HasNames (family op) → InRange (family op) → Reads n op
+unfolding arguments spec.single
 statement_reads n (Persist a) h names ranges = persist_reads n a h names
-statement_reads n (Range size out v) h names ranges = assigned_reads n (codes "Range") o.Range _ _ h refl refl (range_listed size out v names ranges.0 ranges.1 ranges.2)
-statement_reads n (Cross a p b q) h names ranges = assigned_reads n (codes "Cross") (o.Single s.Cross) _ _ h refl refl (and_made spec.cross Some _ _ (cross_listed a p b q names ranges))
-statement_reads n (Zip a b) h names ranges = assigned_reads n (codes "Zip") (o.Single s.Zip) _ _ h refl refl (and_made spec.zip Some _ _ (zip_listed a b names))
-statement_reads n (Project a p q) h names ranges = assigned_reads n (codes "Project") (o.Single s.Project) _ _ h refl refl (and_made spec.project Some _ _ (project_listed a p q names ranges))
-statement_reads n (Upsert a p b q) h names ranges = assigned_reads n (codes "Upsert") (o.Single s.Upsert) _ _ h refl refl (and_made spec.upsert Some _ _ (upsert_listed a p b q names ranges))
-statement_reads n (Gather a b at) h names ranges = assigned_reads n (codes "Gather") (o.Single s.Gather) _ _ h refl refl (and_made spec.gather Some _ _ (gather_listed a b at names ranges))
-statement_reads n (Scatter a size b at) h names ranges = assigned_reads n (codes "Scatter") (o.Single s.Scatter) _ _ h refl refl (and_made spec.scatter Some _ _ (scatter_listed a size b at names ranges))
-statement_reads n (Bucket args) h names ranges = assigned_reads n (codes "Bucket") (o.Rank r.Bucket) _ _ h refl refl (and_made spec.rank (λ x. Some (Bucket x)) _ _ (rank_listed args names ranges))
-statement_reads n (Partition args) h names ranges = assigned_reads n (codes "Partition") (o.Rank r.Partition) _ _ h refl refl (and_made spec.rank (λ x. Some (Partition x)) _ _ (rank_listed args names ranges))
-statement_reads n (Materialize a) h names ranges = assigned_reads n (codes "Materialize") (o.Single s.Materialize) _ _ h refl refl (and_made spec.materialize Some _ _ (materialize_listed a names))
-statement_reads n (Break a) h names ranges = assigned_reads n (codes "Break") (o.Single s.Break) _ _ h refl refl (and_made spec.break_ Some _ _ (break_listed a names))
-statement_reads n (FoldSum args) h names ranges = assigned_reads n (codes "FoldSum") (o.Fold f.Sum) _ _ h refl refl (and_made spec.fold (λ x. Some (FoldSum x)) _ _ (fold_listed args names ranges))
-statement_reads n (FoldMin args) h names ranges = assigned_reads n (codes "FoldMin") (o.Fold f.Min) _ _ h refl refl (and_made spec.fold (λ x. Some (FoldMin x)) _ _ (fold_listed args names ranges))
-statement_reads n (FoldMax args) h names ranges = assigned_reads n (codes "FoldMax") (o.Fold f.Max) _ _ h refl refl (and_made spec.fold (λ x. Some (FoldMax x)) _ _ (fold_listed args names ranges))
-statement_reads n (FoldSelect args) h names ranges = assigned_reads n (codes "FoldSelect") (o.Fold f.Select) _ _ h refl refl (and_made spec.fold (λ x. Some (FoldSelect x)) _ _ (fold_listed args names ranges))
-statement_reads n (FoldScan args) h names ranges = assigned_reads n (codes "FoldScan") (o.Fold f.Scan) _ _ h refl refl (and_made spec.fold (λ x. Some (FoldScan x)) _ _ (fold_listed args names ranges))
-statement_reads n (Order a mark out keys) h names ranges = assigned_reads n (codes "Order") (o.Single s.Order) _ _ h refl refl (and_made spec.order Some _ _ (order_listed a mark out keys names ranges))
-statement_reads n (Add args) h names ranges = assigned_reads n (codes "Add") (o.Pair q.Add) _ _ h refl refl (and_made spec.pair (λ x. Some (Add x)) _ _ (pair_listed args names ranges))
-statement_reads n (Subtract args) h names ranges = assigned_reads n (codes "Subtract") (o.Pair q.Subtract) _ _ h refl refl (and_made spec.pair (λ x. Some (Subtract x)) _ _ (pair_listed args names ranges))
-statement_reads n (Multiply args) h names ranges = assigned_reads n (codes "Multiply") (o.Pair q.Multiply) _ _ h refl refl (and_made spec.pair (λ x. Some (Multiply x)) _ _ (pair_listed args names ranges))
-statement_reads n (Divide args) h names ranges = assigned_reads n (codes "Divide") (o.Pair q.Divide) _ _ h refl refl (and_made spec.pair (λ x. Some (Divide x)) _ _ (pair_listed args names ranges))
-statement_reads n (Modulo args) h names ranges = assigned_reads n (codes "Modulo") (o.Pair q.Modulo) _ _ h refl refl (and_made spec.pair (λ x. Some (Modulo x)) _ _ (pair_listed args names ranges))
-statement_reads n (Greater args) h names ranges = assigned_reads n (codes "Greater") (o.Pair q.Greater) _ _ h refl refl (and_made spec.pair (λ x. Some (Greater x)) _ _ (pair_listed args names ranges))
-statement_reads n (Equals args) h names ranges = assigned_reads n (codes "Equals") (o.Pair q.Equals) _ _ h refl refl (and_made spec.pair (λ x. Some (Equals x)) _ _ (pair_listed args names ranges))
-statement_reads n (LogicalAnd args) h names ranges = assigned_reads n (codes "LogicalAnd") (o.Pair q.LogicalAnd) _ _ h refl refl (and_made spec.pair (λ x. Some (LogicalAnd x)) _ _ (pair_listed args names ranges))
-statement_reads n (LogicalOr args) h names ranges = assigned_reads n (codes "LogicalOr") (o.Pair q.LogicalOr) _ _ h refl refl (and_made spec.pair (λ x. Some (LogicalOr x)) _ _ (pair_listed args names ranges))
-statement_reads n (Fill args) h names ranges = assigned_reads n (codes "Fill") (o.Pair q.Fill) _ _ h refl refl (and_made spec.pair (λ x. Some (Fill x)) _ _ (pair_listed args names ranges))
-statement_reads n (BitShift x by out) h names ranges = assigned_reads n (codes "BitShift") (o.Single s.BitShift) _ _ h refl refl (and_made spec.bit_shift Some _ _ (shift_listed x by out names ranges))
+statement_reads n (Range size out v) h names ranges = operator_reads n o.Range _ _ h (range_listed size out v names ranges.0 ranges.1 ranges.2)
+statement_reads n (Load t) h names ranges = single_reads n s.Load _ _ h (load_listed t names)
+statement_reads n (Cross a p b q) h names ranges = single_reads n s.Cross _ _ h (cross_listed a p b q names ranges)
+statement_reads n (Zip a b) h names ranges = single_reads n s.Zip _ _ h (zip_listed a b names)
+statement_reads n (Project a p q) h names ranges = single_reads n s.Project _ _ h (project_listed a p q names ranges)
+statement_reads n (Upsert a p b q) h names ranges = single_reads n s.Upsert _ _ h (upsert_listed a p b q names ranges)
+statement_reads n (Gather a b at) h names ranges = single_reads n s.Gather _ _ h (gather_listed a b at names ranges)
+statement_reads n (Scatter a size b at) h names ranges = single_reads n s.Scatter _ _ h (scatter_listed a size b at names ranges)
+statement_reads n (Materialize a) h names ranges = single_reads n s.Materialize _ _ h (materialize_listed a names)
+statement_reads n (Break a) h names ranges = single_reads n s.Break _ _ h (break_listed a names)
+statement_reads n (Order a mark out keys) h names ranges = single_reads n s.Order _ _ h (order_listed a mark out keys names ranges)
+statement_reads n (BitShift x by out) h names ranges = single_reads n s.BitShift _ _ h (shift_listed x by out names ranges)
+statement_reads n (Bucket args) h names ranges = rank_reads n r.Bucket args h names ranges
+statement_reads n (Partition args) h names ranges = rank_reads n r.Partition args h names ranges
+statement_reads n (FoldSum args) h names ranges = fold_reads n f.Sum args h names ranges
+statement_reads n (FoldMin args) h names ranges = fold_reads n f.Min args h names ranges
+statement_reads n (FoldMax args) h names ranges = fold_reads n f.Max args h names ranges
+statement_reads n (FoldSelect args) h names ranges = fold_reads n f.Select args h names ranges
+statement_reads n (FoldScan args) h names ranges = fold_reads n f.Scan args h names ranges
+statement_reads n (Add args) h names ranges = pair_reads n q.Add args h names ranges
+statement_reads n (Subtract args) h names ranges = pair_reads n q.Subtract args h names ranges
+statement_reads n (Multiply args) h names ranges = pair_reads n q.Multiply args h names ranges
+statement_reads n (Divide args) h names ranges = pair_reads n q.Divide args h names ranges
+statement_reads n (Modulo args) h names ranges = pair_reads n q.Modulo args h names ranges
+statement_reads n (Greater args) h names ranges = pair_reads n q.Greater args h names ranges
+statement_reads n (Equals args) h names ranges = pair_reads n q.Equals args h names ranges
+statement_reads n (LogicalAnd args) h names ranges = pair_reads n q.LogicalAnd args h names ranges
+statement_reads n (LogicalOr args) h names ranges = pair_reads n q.LogicalOr args h names ranges
+statement_reads n (Fill args) h names ranges = pair_reads n q.Fill args h names ranges
 
 -- ---- programs
 
 plain_no_feed : (b : ℕ) → is_plain b ≡ true → not (is_feed b) ≡ true
 plain_no_feed b h = (and_parts (nat_lt b 128) (not (b == 10)) h).1
 
+plain_small : (b : ℕ) → is_plain b ≡ true → b < 128
+plain_small b h = ltb-true b 128 (and_parts (nat_lt b 128) (not (b == 10)) h).0
+
 plain_ascii : (w : Bytes) → list_all is_plain w ≡ true → IsAscii w
-plain_ascii [] h = IsAscii-nil
-plain_ascii (b ∷ w) h =
-    let both = and_parts (is_plain b) (list_all is_plain w) h in
-    IsAscii-cons b w (ltb-true b 128 (and_parts (nat_lt b 128) (not (b == 10)) both.0).0) (plain_ascii w both.1)
+plain_ascii w h = all_ascii is_plain plain_small w h
 
 -- a line that is read has a token
 with_read : (n : ℕ) (ts : List Token) (s : Statement) (others : Result ReadProgram TextRefusal) → line_of ts ≡ Ok s → with_line n ts others ≡ with_statement n s others

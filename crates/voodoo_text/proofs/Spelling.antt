@@ -1,13 +1,13 @@
 -- What each place prints is read by it again, and stands on one line.
 use Rattle.std.proofs.Common.{◌≡◌, ℕ, ℤ, pos, negsuc, zero, suc, ◌^◌, ◌+◌, ◌-◌, ◌≤◌, ◌<◌, Bool, true, false, not, ◌&&◌, List, [], ◌∷◌, ◌++◌, length, map, refl, ap, sym, ◌∙◌, lit<, arith, append_assoc, append-nil}
-use Rattle.std.specs.Prelude.{◌==◌, ◌||◌, nat_lt, Option, Some, Ok}
+use Rattle.std.specs.Prelude.{◌==◌, ◌||◌, nat_lt, Option, Some, Ok, Err}
 use Rattle.std.specs.Char.{is_ascii_digit}
 use Rattle.std.specs.Fmt.{decimal, signed_decimal}
 use Rattle.std.specs.List.{list_all, flat_map}
 use Rattle.std.proofs.lemmas.Bool.Decides.{nat_tests}
 use Rattle.std.proofs.lemmas.Int.{ints}
 use Rattle.std.proofs.lemmas.Fmt.{decimal_is_IsNumeral_wide}
-use Rattle.phrases.specs.Parsers.{and_then, pure, turns, ◌>>=◌}
+use Rattle.phrases.specs.Parsers.{Outcome, and_then, pure, turns, ◌>>=◌}
 use Rattle.key_paths.specs.Paths.{is_dot, is_in_segment, is_segment, IsPath}
 use Rattle.programs.specs.declared.op.Size.{Size}
 use Rattle.programs.specs.declared.op.Size.TheVariants as sizes
@@ -15,10 +15,12 @@ use Rattle.programs.specs.declared.op.Operand.{Operand}
 use Rattle.programs.specs.declared.op.Operand.TheVariants as operands
 use Rattle.programs.specs.declared.order_keys.OrderPath.{OrderPath}
 use Rattle.voodoo_text.specs.declared.kind.Kind.TheVariants as k
+use Rattle.voodoo_text.specs.declared.places.VectorPath.{VectorPath}
+use Rattle.voodoo_text.specs.declared.refusal.TextKind.{TextKind}
 use Rattle.voodoo_text.specs.Kinds.{same_kind}
 use Rattle.voodoo_text.specs.Values.{Bytes, integer_within, natural_within}
 use Rattle.voodoo_text.specs.Tokens.{Token, token, tokens_from}
-use Rattle.voodoo_text.specs.Places.{Parser, is, expect, name, path, number, operand, size, key, column, descends, another_key, keys, next}
+use Rattle.voodoo_text.specs.Places.{Parser, is, expect, name, path, attribute, attribute_of, number, operand, size, key, column, descends, another_key, keys, next}
 use Rattle.voodoo_text.specs.Canonical.{size_text, operand_text, key_text, after_comma, listed}
 use Rattle.voodoo_text.specs.Spelled.{IsName, SizeHasName, OperandHasName, SizeInRange, OperandInRange, KeysInRange}
 use Rattle.key_paths.proofs.Bools.{all_weaker, all_both}
@@ -234,6 +236,41 @@ first_one p q w ws a b s others = record {
 
 pub and_made : {A B : Type 0} (p : Parser A) (f : A → B) (ws : List Bytes) (a : A) → Listed p ws a → Listed (p >>= (λ a. pure (f a))) ws (f a)
 and_made p f ws a l = record { reads = λ rest. ap (λ r. and_then r (λ a. pure (f a))) (l.reads rest); inside = l.inside }
+
+-- ---- arguments in groups
+
+grouped : {A B C : Type 0} (x : Outcome Token TextKind A) (f : A → Parser B) (g : B → Parser C) → and_then (and_then x f) g ≡ and_then x (λ a. f a >>= g)
+grouped (Ok y) f g = refl
+grouped (Err e) f g = refl
+
+grouped_next : {A B C : Type 0} (x : Outcome Token TextKind Bytes) (p : Parser A) (f : A → Parser B) (g : B → Parser C) → and_then (and_then x (λ _. p >>= f)) g ≡ and_then (and_then x (λ _. p)) (λ a. f a >>= g)
+grouped_next (Ok y) p f g = grouped (p y.1) f g
+grouped_next (Err e) p f g = refl
+
+listed_group : {A B C : Type 0} (p : Parser A) (f : A → Parser B) (g : B → Parser C) (ws : List Bytes) (c : C) → Listed (p >>= (λ a. f a >>= g)) ws c → Listed ((p >>= f) >>= g) ws c
+listed_group p f g ws c l = record { reads = λ rest. grouped (p (tokens_from false 0 (listed ws ++ 41 ∷ rest))) f g ∙ l.reads rest; inside = l.inside }
+
+pub others_group : {A B C : Type 0} (p : Parser A) (f : A → Parser B) (g : B → Parser C) (ws : List Bytes) (c : C) → Others (p >>= (λ a. f a >>= g)) ws c → Others ((p >>= f) >>= g) ws c
+others_group p f g ws c l = record { reads = λ rest. grouped (p (tokens_from false 0 (tail_of ws rest))) f g ∙ l.reads rest; inside = l.inside }
+
+pub next_group : {A B C : Type 0} (p : Parser A) (f : A → Parser B) (g : B → Parser C) (ws : List Bytes) (c : C) → Others (next p >>= (λ a. f a >>= g)) ws c → Others (next (p >>= f) >>= g) ws c
+next_group p f g ws c l = record { reads = λ rest. grouped_next (expect k.Comma (tokens_from false 0 (tail_of ws rest))) p f g ∙ l.reads rest; inside = l.inside }
+
+-- an attribute is two arguments
+of_vector : Bytes → Parser VectorPath
+of_vector a = next path >>= (λ p. pure (attribute_of a p))
+
+path_more : {B : Type 0} (q : VectorPath → Parser B) (a p : Bytes) (ws : List Bytes) (b : B) → IsPath p → Others (q (attribute_of a p)) ws b → Others (of_vector a >>= q) (p ∷ ws) b
+unfolding of_vector
+path_more q a p ws b is others = others_group (next path) (λ p. pure (attribute_of a p)) q (p ∷ ws) b (one_more path (λ p. q (attribute_of a p)) p ws p b (path_spells p is) others)
+
+pub first_attribute : {B : Type 0} (q : VectorPath → Parser B) (a p : Bytes) (ws : List Bytes) (b : B) → IsName a → IsPath p → Others (q (attribute_of a p)) ws b → Listed (attribute >>= q) (a ∷ p ∷ ws) b
+unfolding attribute of_vector
+first_attribute q a p ws b h is others = listed_group name of_vector q (a ∷ p ∷ ws) b (first_one name (λ a. of_vector a >>= q) a (p ∷ ws) a b (name_spells a h) (path_more q a p ws b is others))
+
+pub next_attribute : {B : Type 0} (q : VectorPath → Parser B) (a p : Bytes) (ws : List Bytes) (b : B) → IsName a → IsPath p → Others (q (attribute_of a p)) ws b → Others (next attribute >>= q) (a ∷ p ∷ ws) b
+unfolding attribute of_vector
+next_attribute q a p ws b h is others = next_group name of_vector q (a ∷ p ∷ ws) b (one_more name (λ a. of_vector a >>= q) a (p ∷ ws) a b (name_spells a h) (path_more q a p ws b is others))
 
 -- ---- the keys of an Order
 

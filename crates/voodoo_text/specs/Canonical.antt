@@ -7,14 +7,16 @@ use Rattle.programs.specs.declared.op.Size.{Size}
 use Rattle.programs.specs.declared.op.Size.TheVariants as size
 use Rattle.programs.specs.declared.op.Operand.{Operand}
 use Rattle.programs.specs.declared.op.Operand.TheVariants as operand
-use Rattle.programs.specs.declared.op.Op.{Op}
-use Rattle.programs.specs.declared.op.Op.TheVariants.{Load, Persist, Range, Cross, Zip, Project, Upsert, Gather, Scatter, Bucket, Partition, Materialize, Break, FoldSum, FoldMin, FoldMax, FoldSelect, FoldScan, Order, Add, Subtract, Multiply, Divide, Modulo, BitShift, Greater, Equals, LogicalAnd, LogicalOr, Fill}
+use Rattle.programs.specs.Families.{Family, Load, Persist, Range, Cross, Zip, Project, Upsert, Gather, Scatter, Rank, Materialize, Break, Fold, Order, Pair, BitShift, family}
 use Rattle.programs.specs.declared.op.PairArgs.{PairArgs}
 use Rattle.programs.specs.declared.op.FoldArgs.{FoldArgs}
 use Rattle.programs.specs.declared.op.RankArgs.{RankArgs}
 use Rattle.programs.specs.declared.op.Statement.{Statement}
 use Rattle.programs.specs.declared.order_keys.OrderPath.{OrderPath}
+use Rattle.voodoo_text.specs.declared.operator.SingleOperator.TheVariants as single
+use Rattle.voodoo_text.specs.declared.operator.Operator.TheVariants as operator
 use Rattle.voodoo_text.specs.Values.{Bytes}
+use Rattle.voodoo_text.specs.Operators.{single_word, rank_word, fold_word, pair_word, operator_word}
 
 -- a size is a number or a vector's name
 abbrev pub size_text : Size → Bytes
@@ -34,38 +36,24 @@ key_sign false = 43
 abbrev pub key_text : OrderPath → Bytes
 key_text key = key_sign key.descending ∷ key.path
 
--- ---- each operator
-abbrev pub operator_word : Op → Bytes
-operator_word (Load table) = codes "Load"
-operator_word (Persist a) = codes "Persist"
-operator_word (Range size out control) = codes "Range"
-operator_word (Cross a p b q) = codes "Cross"
-operator_word (Zip a b) = codes "Zip"
-operator_word (Project a p q) = codes "Project"
-operator_word (Upsert a p b q) = codes "Upsert"
-operator_word (Gather a b pos) = codes "Gather"
-operator_word (Scatter a size b pos) = codes "Scatter"
-operator_word (Bucket args) = codes "Bucket"
-operator_word (Partition args) = codes "Partition"
-operator_word (Materialize a) = codes "Materialize"
-operator_word (Break a) = codes "Break"
-operator_word (FoldSum args) = codes "FoldSum"
-operator_word (FoldMin args) = codes "FoldMin"
-operator_word (FoldMax args) = codes "FoldMax"
-operator_word (FoldSelect args) = codes "FoldSelect"
-operator_word (FoldScan args) = codes "FoldScan"
-operator_word (Order a mark out keys) = codes "Order"
-operator_word (Add args) = codes "Add"
-operator_word (Subtract args) = codes "Subtract"
-operator_word (Multiply args) = codes "Multiply"
-operator_word (Divide args) = codes "Divide"
-operator_word (Modulo args) = codes "Modulo"
-operator_word (BitShift x by out) = codes "BitShift"
-operator_word (Greater args) = codes "Greater"
-operator_word (Equals args) = codes "Equals"
-operator_word (LogicalAnd args) = codes "LogicalAnd"
-operator_word (LogicalOr args) = codes "LogicalOr"
-operator_word (Fill args) = codes "Fill"
+-- ---- each family of operators
+abbrev pub family_word : Family → Bytes
+family_word (Load table) = single_word single.Load
+family_word (Persist a) = codes "Persist"
+family_word (Range size out control) = operator_word operator.Range
+family_word (Cross a p b q) = single_word single.Cross
+family_word (Zip a b) = single_word single.Zip
+family_word (Project a p q) = single_word single.Project
+family_word (Upsert a p b q) = single_word single.Upsert
+family_word (Gather a b pos) = single_word single.Gather
+family_word (Scatter a size b pos) = single_word single.Scatter
+family_word (Rank kind args) = rank_word kind
+family_word (Materialize a) = single_word single.Materialize
+family_word (Break a) = single_word single.Break
+family_word (Fold kind args) = fold_word kind
+family_word (Order a mark out keys) = single_word single.Order
+family_word (Pair kind args) = pair_word kind
+family_word (BitShift x by out) = single_word single.BitShift
 
 -- a slot-wise operator has two operands and the path that it makes
 abbrev pub pair_arguments : PairArgs → List Bytes
@@ -83,7 +71,7 @@ range_arguments size out control =
     size_text size ∷ out ∷ signed_decimal control.start ∷ decimal control.step ∷ decimal control.modulus ∷ decimal control.divisor ∷ []
 
 -- what stands between the parentheses; a Persist has its result's name there first
-abbrev pub arguments : Bytes → Op → List Bytes
+abbrev pub arguments : Bytes → Family → List Bytes
 arguments name (Load table) = table ∷ []
 arguments name (Persist a) = name ∷ a ∷ []
 arguments name (Range size out control) = range_arguments size out control
@@ -93,32 +81,18 @@ arguments name (Project a p q) = a ∷ p ∷ q ∷ []
 arguments name (Upsert a p b q) = a ∷ p ∷ b ∷ q ∷ []
 arguments name (Gather a b pos) = a ∷ b ∷ pos ∷ []
 arguments name (Scatter a size b pos) = a ∷ size_text size ∷ b ∷ pos ∷ []
-arguments name (Bucket args) = rank_arguments args
-arguments name (Partition args) = rank_arguments args
+arguments name (Rank kind args) = rank_arguments args
 arguments name (Materialize a) = a ∷ []
 arguments name (Break a) = a ∷ []
-arguments name (FoldSum args) = fold_arguments args
-arguments name (FoldMin args) = fold_arguments args
-arguments name (FoldMax args) = fold_arguments args
-arguments name (FoldSelect args) = fold_arguments args
-arguments name (FoldScan args) = fold_arguments args
+arguments name (Fold kind args) = fold_arguments args
 arguments name (Order a mark out keys) = a ∷ mark ∷ out ∷ map key_text keys
-arguments name (Add args) = pair_arguments args
-arguments name (Subtract args) = pair_arguments args
-arguments name (Multiply args) = pair_arguments args
-arguments name (Divide args) = pair_arguments args
-arguments name (Modulo args) = pair_arguments args
+arguments name (Pair kind args) = pair_arguments args
 arguments name (BitShift x by out) = operand_text x ∷ signed_decimal by ∷ out ∷ []
-arguments name (Greater args) = pair_arguments args
-arguments name (Equals args) = pair_arguments args
-arguments name (LogicalAnd args) = pair_arguments args
-arguments name (LogicalOr args) = pair_arguments args
-arguments name (Fill args) = pair_arguments args
 
 -- `name = `, but for a Persist
-abbrev pub target : Bytes → Op → Bytes
+abbrev pub target : Bytes → Family → Bytes
 target name (Persist a) = []
-target name op = name ++ codes " = "
+target name others = name ++ codes " = "
 
 -- ---- the text
 abbrev pub after_comma : Bytes → Bytes
@@ -132,8 +106,12 @@ listed (first ∷ others) = first ++ flat_map after_comma others
 abbrev pub call : Bytes → List Bytes → Bytes
 call word words = word ++ (codes "(" ++ (listed words ++ codes ")"))
 
+-- a statement with a name and an operator of a family
+abbrev pub family_text : Bytes → Family → Bytes
+family_text name f = target name f ++ call (family_word f) (arguments name f)
+
 abbrev pub statement_text : Statement → Bytes
-statement_text s = target s.name s.op ++ call (operator_word s.op) (arguments s.name s.op)
+statement_text s = family_text s.name (family s.op)
 
 abbrev pub line : Statement → Bytes
 line s = statement_text s ++ codes "\n"

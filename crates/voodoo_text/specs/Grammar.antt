@@ -1,5 +1,5 @@
 -- The grammar of a line, over its tokens: which tokens spell which statement. After the listings of the Voodoo paper, section 2.
-use Rattle.std.specs.Prelude.{◌≡◌, ◌^◌, ◌-◌, Option, Some, codes}
+use Rattle.std.specs.Prelude.{◌≡◌, Option, Some, codes}
 use Rattle.std.specs.Option.{option_map}
 use Rattle.phrases.specs.Phrases.{Phrase, nothing, ◌>>=◌, ◌>>◌, ◌<|>◌}
 use Rattle.programs.specs.declared.op.Op.{Op}
@@ -13,11 +13,11 @@ use Rattle.voodoo_text.specs.declared.operator.Operator.{Operator}
 use Rattle.voodoo_text.specs.declared.operator.Operator.TheVariants as o
 use Rattle.voodoo_text.specs.declared.operator.SingleOperator.{SingleOperator}
 use Rattle.voodoo_text.specs.declared.operator.SingleOperator.TheVariants as s
-use Rattle.voodoo_text.specs.Values.{Bytes, admitted}
+use Rattle.voodoo_text.specs.Values.{Bytes}
 use Rattle.voodoo_text.specs.Tokens.{Token}
-use Rattle.voodoo_text.specs.Operators.{paired, folded, ranked}
+use Rattle.programs.specs.Families.{pair_of, fold_of, rank_of}
 use Rattle.voodoo_text.specs.Statements.{statement}
-use Rattle.voodoo_text.specs.PlaceGrammar.{Asked, word, name, path, integer, natural, operator, operand, size, next, keys}
+use Rattle.voodoo_text.specs.PlaceGrammar.{Asked, word, name, path, attribute, control, integer, operator, operand, size, next, keys}
 
 -- ---- the arguments of each operator, where a and b are vectors
 
@@ -27,18 +27,11 @@ load = do t ← name; nothing (op.Load t)
 
 -- Range(size, .out, start, step, modulus, divisor); a Range whose four numbers are not admissible is none
 abbrev pub range : Asked → Phrase Token (Option Op)
-range m = do
-  n ← size m
-  out ← next path
-  start ← next (integer m (2 ^ 63) (2 ^ 63 - 1))
-  step ← next (natural m (2 ^ 64 - 1))
-  modulus ← next (natural m (2 ^ 64 - 1))
-  divisor ← next (natural m (2 ^ 64 - 1))
-  nothing (option_map (op.Range n out) (admitted start step modulus divisor))
+range m = do n ← size m; out ← next path; c ← next (control m); nothing (option_map (op.Range n out) c)
 
 -- Cross(a, .q, b, .r)
 abbrev pub cross : Phrase Token Op
-cross = do a ← name; q ← next path; b ← next name; r ← next path; nothing (op.Cross a q b r)
+cross = do v ← attribute; w ← next attribute; nothing (op.Cross v.vector v.path w.vector w.path)
 
 -- Zip(a, b)
 abbrev pub zip : Phrase Token Op
@@ -46,29 +39,27 @@ zip = do a ← name; b ← next name; nothing (op.Zip a b)
 
 -- Project(a, .q, .r)
 abbrev pub project : Phrase Token Op
-project = do a ← name; q ← next path; r ← next path; nothing (op.Project a q r)
+project = do v ← attribute; r ← next path; nothing (op.Project v.vector v.path r)
 
 -- Upsert(a, .q, b, .r)
 abbrev pub upsert : Phrase Token Op
-upsert = do a ← name; q ← next path; b ← next name; r ← next path; nothing (op.Upsert a q b r)
+upsert = do v ← attribute; w ← next attribute; nothing (op.Upsert v.vector v.path w.vector w.path)
 
 -- Gather(a, b, .pos)
 abbrev pub gather : Phrase Token Op
-gather = do a ← name; b ← next name; q ← next path; nothing (op.Gather a b q)
+gather = do a ← name; w ← next attribute; nothing (op.Gather a w.vector w.path)
 
 -- Scatter(a, size, b, .pos)
 abbrev pub scatter : Asked → Phrase Token Op
-scatter m = do a ← name; n ← next (size m); b ← next name; q ← next path; nothing (op.Scatter a n b q)
+scatter m = do a ← name; n ← next (size m); w ← next attribute; nothing (op.Scatter a n w.vector w.path)
 
 -- Bucket(a, .key, b, .pivot, .out), and so Partition
 abbrev pub rank : Phrase Token RankArgs
 rank = do
-  a ← name
-  q ← next path
-  b ← next name
-  pivot ← next path
+  v ← attribute
+  w ← next attribute
   out ← next path
-  nothing (record { a = a; key = q; b = b; pivot = pivot; out = out })
+  nothing (record { a = v.vector; key = v.path; b = w.vector; pivot = w.path; out = out })
 
 -- Materialize(a)
 abbrev pub materialize : Phrase Token Op
@@ -81,15 +72,14 @@ break_ = do a ← name; nothing (op.Break a)
 -- FoldSum(a, .val, .run, .out), and so each fold
 abbrev pub fold : Phrase Token FoldArgs
 fold = do
-  a ← name
-  val ← next path
+  v ← attribute
   run ← next path
   out ← next path
-  nothing (record { a = a; val = val; run = run; out = out })
+  nothing (record { a = v.vector; val = v.path; run = run; out = out })
 
 -- Order(a, .mark, .out {, key})
 abbrev pub order : Phrase Token Op
-order = do a ← name; mark ← next path; out ← next path; ks ← keys; nothing (op.Order a mark out ks)
+order = do v ← attribute; out ← next path; ks ← keys; nothing (op.Order v.vector v.path out ks)
 
 -- Add(x, y, .out), and so each operator that works slot by slot on two operands
 abbrev pub pair : Asked → Phrase Token PairArgs
@@ -122,9 +112,9 @@ some make a = nothing (Some (make a))
 abbrev pub arguments : Asked → Operator → Phrase Token (Option Op)
 arguments m o.Range = range m
 arguments m (o.Single a) = single m a >>= some (λ op. op)
-arguments m (o.Rank a) = rank >>= some (ranked a)
-arguments m (o.Fold a) = fold >>= some (folded a)
-arguments m (o.Pair a) = pair m >>= some (paired a)
+arguments m (o.Rank a) = rank >>= some (rank_of a)
+arguments m (o.Fold a) = fold >>= some (fold_of a)
+arguments m (o.Pair a) = pair m >>= some (pair_of a)
 
 -- ---- lines
 

@@ -13,3 +13,4 @@ pub mod PlaceGrammar
 pub mod Grammar
 pub mod GrammarLaws
 pub mod Laws
+pub mod Examples

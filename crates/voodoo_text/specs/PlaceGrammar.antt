@@ -6,12 +6,15 @@ use Rattle.programs.specs.declared.op.Size.TheVariants as sizes
 use Rattle.programs.specs.declared.op.Operand.{Operand}
 use Rattle.programs.specs.declared.op.Operand.TheVariants as operands
 use Rattle.programs.specs.declared.order_keys.OrderPath.{OrderPath}
+use Rattle.control_vectors.specs.Controls.{Control}
+use Rattle.voodoo_text.specs.declared.places.VectorPath.{VectorPath}
 use Rattle.voodoo_text.specs.declared.kind.Kind.{Kind}
 use Rattle.voodoo_text.specs.declared.kind.Kind.TheVariants as k
 use Rattle.voodoo_text.specs.declared.operator.Operator.{Operator}
-use Rattle.voodoo_text.specs.Values.{Bytes, integer_within, natural_within}
+use Rattle.voodoo_text.specs.Values.{Bytes, integer_within, natural_within, admitted}
 use Rattle.voodoo_text.specs.Tokens.{Token, token}
 use Rattle.voodoo_text.specs.Operators.{operator_of}
+use Rattle.voodoo_text.specs.Places.{attribute_of}
 
 -- what is asked of the numbers of a line
 pub data Asked : Type 0 where
@@ -55,6 +58,23 @@ operator = valued k.Name operator_of
 
 -- ---- what may stand in one place of a statement
 
+-- "," and what comes next
+abbrev pub next : {A : Type 0} → Phrase Token A → Phrase Token A
+next L = word k.Comma >> L
+
+-- attribute = name "," path
+abbrev pub attribute : Phrase Token VectorPath
+attribute = do a ← name; q ← next path; nothing (attribute_of a q)
+
+-- control = start "," step "," modulus "," divisor; none where the four numbers are not admissible
+abbrev pub control : Asked → Phrase Token (Option Control)
+control m = do
+  start ← integer m (2 ^ 63) (2 ^ 63 - 1)
+  step ← next (natural m (2 ^ 64 - 1))
+  modulus ← next (natural m (2 ^ 64 - 1))
+  divisor ← next (natural m (2 ^ 64 - 1))
+  nothing (admitted start step modulus divisor)
+
 -- operand = name path | number, where the path directly follows the name
 abbrev pub operand : Asked → Phrase Token Operand
 operand m =
@@ -66,10 +86,6 @@ abbrev pub size : Asked → Phrase Token Size
 size m =
     (do a ← name; nothing (sizes.Of a))
     <|> (do n ← natural m (2 ^ 32 - 1); nothing (sizes.Number n))
-
--- "," and what comes next
-abbrev pub next : {A : Type 0} → Phrase Token A → Phrase Token A
-next L = word k.Comma >> L
 
 -- "-" | "+", of a key that descends and of one that ascends
 abbrev pub descends : Phrase Token Bool

@@ -8,12 +8,14 @@ use Rattle.programs.specs.declared.op.Size.TheVariants as sizes
 use Rattle.programs.specs.declared.op.Operand.{Operand}
 use Rattle.programs.specs.declared.op.Operand.TheVariants as operands
 use Rattle.programs.specs.declared.order_keys.OrderPath.{OrderPath}
+use Rattle.control_vectors.specs.Controls.{Control}
+use Rattle.voodoo_text.specs.declared.places.VectorPath.{VectorPath}
 use Rattle.voodoo_text.specs.declared.kind.Kind.{Kind}
 use Rattle.voodoo_text.specs.declared.kind.Kind.TheVariants as k
 use Rattle.voodoo_text.specs.declared.refusal.TextKind.{TextKind}
 use Rattle.voodoo_text.specs.declared.refusal.TextKind.TheVariants.{BadNumber, Unexpected}
 use Rattle.voodoo_text.specs.Kinds.{same_kind, fault_of}
-use Rattle.voodoo_text.specs.Values.{Bytes, integer_within, natural_within}
+use Rattle.voodoo_text.specs.Values.{Bytes, integer_within, natural_within, admitted}
 use Rattle.voodoo_text.specs.Tokens.{Token}
 
 abbrev pub Parser : Type 0 → Type 0
@@ -33,6 +35,20 @@ name = expect k.Name
 abbrev pub path : Parser Bytes
 path = expect k.Path
 
+-- after a comma
+abbrev pub next : {A : Type 0} → Parser A → Parser A
+next q = expect k.Comma >> q
+
+-- an attribute, by its vector's name and its path
+abbrev pub attribute_of : Bytes → Bytes → VectorPath
+attribute_of a q = record { vector = a; path = q }
+
+unfoldable pub attribute : Parser VectorPath
+attribute = do
+  a ← name
+  q ← next path
+  pure (attribute_of a q)
+
 -- a number that has its place's range
 abbrev pub in_range : {A : Type 0} → Option A → Token → List Token → p.Outcome Token TextKind A
 in_range (Some a) t ts = Ok (a, ts)
@@ -41,6 +57,15 @@ in_range None t ts = Err (Refused BadNumber (length (t ∷ ts)))
 unfoldable pub number : {A : Type 0} → (Bytes → Option A) → Parser A
 number within [] = Err (Refused Unexpected 0)
 number within (t ∷ ts) = if is k.Number t then in_range (within t.word) t ts else Err (Refused (fault_of t.kind) (length (t ∷ ts)))
+
+-- the four numbers of a control vector; none where they are not admissible
+unfoldable pub control : Parser (Option Control)
+control = do
+  start ← number (integer_within (2 ^ 63) (2 ^ 63 - 1))
+  step ← next (number (natural_within (2 ^ 64 - 1)))
+  modulus ← next (number (natural_within (2 ^ 64 - 1)))
+  divisor ← next (number (natural_within (2 ^ 64 - 1)))
+  pure (admitted start step modulus divisor)
 
 -- a name directly followed by a path, or a number of 128 bits
 unfoldable pub column : Parser Operand
@@ -65,10 +90,6 @@ key = do
   down ← descends
   q ← path
   pure (record { path = q; descending = down })
-
--- after a comma
-abbrev pub next : {A : Type 0} → Parser A → Parser A
-next q = expect k.Comma >> q
 
 unfoldable pub another_key : List OrderPath → Parser (List OrderPath)
 another_key keys = do

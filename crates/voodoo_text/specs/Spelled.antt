@@ -7,7 +7,7 @@ use Rattle.programs.specs.declared.op.Size.TheVariants as size
 use Rattle.programs.specs.declared.op.Operand.{Operand}
 use Rattle.programs.specs.declared.op.Operand.TheVariants as operand
 use Rattle.programs.specs.declared.op.Op.{Op}
-use Rattle.programs.specs.declared.op.Op.TheVariants.{Load, Persist, Range, Cross, Zip, Project, Upsert, Gather, Scatter, Bucket, Partition, Materialize, Break, FoldSum, FoldMin, FoldMax, FoldSelect, FoldScan, Order, Add, Subtract, Multiply, Divide, Modulo, BitShift, Greater, Equals, LogicalAnd, LogicalOr, Fill}
+use Rattle.programs.specs.Families.{Family, Load, Persist, Range, Cross, Zip, Project, Upsert, Gather, Scatter, Rank, Materialize, Break, Fold, Order, Pair, BitShift, family}
 use Rattle.programs.specs.declared.op.PairArgs.{PairArgs}
 use Rattle.programs.specs.declared.op.FoldArgs.{FoldArgs}
 use Rattle.programs.specs.declared.op.RankArgs.{RankArgs}
@@ -37,7 +37,7 @@ abbrev pub RankHasNames : RankArgs → Type 0
 RankHasNames args = IsName args.a × IsName args.b
 
 -- each name of an operator has the form of a path's segment, and a shift is one of -127 to 127
-abbrev pub HasNames : Op → Type 0
+abbrev pub HasNames : Family → Type 0
 HasNames (Load table) = IsName table
 HasNames (Persist a) = IsName a
 HasNames (Range size out control) = SizeHasName size
@@ -47,30 +47,19 @@ HasNames (Project a p q) = IsName a
 HasNames (Upsert a p b q) = IsName a × IsName b
 HasNames (Gather a b at) = IsName a × IsName b
 HasNames (Scatter a size b at) = IsName a × SizeHasName size × IsName b
-HasNames (Bucket args) = RankHasNames args
-HasNames (Partition args) = RankHasNames args
+HasNames (Rank kind args) = RankHasNames args
 HasNames (Materialize a) = IsName a
 HasNames (Break a) = IsName a
-HasNames (FoldSum args) = IsName args.a
-HasNames (FoldMin args) = IsName args.a
-HasNames (FoldMax args) = IsName args.a
-HasNames (FoldSelect args) = IsName args.a
-HasNames (FoldScan args) = IsName args.a
+HasNames (Fold kind args) = IsName args.a
 HasNames (Order a mark out keys) = IsName a
-HasNames (Add args) = PairHasNames args
-HasNames (Subtract args) = PairHasNames args
-HasNames (Multiply args) = PairHasNames args
-HasNames (Divide args) = PairHasNames args
-HasNames (Modulo args) = PairHasNames args
+HasNames (Pair kind args) = PairHasNames args
 HasNames (BitShift x by out) = OperandHasName x × IsShift by
-HasNames (Greater args) = PairHasNames args
-HasNames (Equals args) = PairHasNames args
-HasNames (LogicalAnd args) = PairHasNames args
-HasNames (LogicalOr args) = PairHasNames args
-HasNames (Fill args) = PairHasNames args
+
+abbrev pub OpHasNames : Op → Type 0
+OpHasNames op = HasNames (family op)
 
 abbrev pub StatementHasNames : Statement → Type 0
-StatementHasNames s = IsName s.name × HasNames s.op
+StatementHasNames s = IsName s.name × OpHasNames s.op
 
 abbrev pub CanBeSpelled : List Statement → Type 0
 CanBeSpelled [] = Unit {0}
@@ -98,7 +87,7 @@ abbrev pub KeysInRange : List OrderPath → Type 0
 KeysInRange [] = Unit {0}
 KeysInRange (key ∷ keys) = IsPath key.path × KeysInRange keys
 
-abbrev pub InRange : Op → Type 0
+abbrev pub InRange : Family → Type 0
 InRange (Load table) = Unit {0}
 InRange (Persist a) = Unit {0}
 InRange (Range size out control) = SizeInRange size × IsPath out × IsAdmissible control
@@ -108,28 +97,14 @@ InRange (Project a p q) = IsPath p × IsPath q
 InRange (Upsert a p b q) = IsPath p × IsPath q
 InRange (Gather a b at) = IsPath at
 InRange (Scatter a size b at) = SizeInRange size × IsPath at
-InRange (Bucket args) = RankInRange args
-InRange (Partition args) = RankInRange args
+InRange (Rank kind args) = RankInRange args
 InRange (Materialize a) = Unit {0}
 InRange (Break a) = Unit {0}
-InRange (FoldSum args) = FoldInRange args
-InRange (FoldMin args) = FoldInRange args
-InRange (FoldMax args) = FoldInRange args
-InRange (FoldSelect args) = FoldInRange args
-InRange (FoldScan args) = FoldInRange args
+InRange (Fold kind args) = FoldInRange args
 InRange (Order a mark out keys) = IsPath mark × IsPath out × KeysInRange keys
-InRange (Add args) = PairInRange args
-InRange (Subtract args) = PairInRange args
-InRange (Multiply args) = PairInRange args
-InRange (Divide args) = PairInRange args
-InRange (Modulo args) = PairInRange args
+InRange (Pair kind args) = PairInRange args
 InRange (BitShift x by out) = OperandInRange x × IsPath out
-InRange (Greater args) = PairInRange args
-InRange (Equals args) = PairInRange args
-InRange (LogicalAnd args) = PairInRange args
-InRange (LogicalOr args) = PairInRange args
-InRange (Fill args) = PairInRange args
 
 abbrev pub HasRanges : List Statement → Type 0
 HasRanges [] = Unit {0}
-HasRanges (s ∷ program) = InRange s.op × HasRanges program
+HasRanges (s ∷ program) = InRange (family s.op) × HasRanges program

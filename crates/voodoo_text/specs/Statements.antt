@@ -1,5 +1,5 @@
 -- The statements, each on a line of its own, after the listings of the Voodoo paper, section 2.
-use Rattle.std.specs.Prelude.{◌^◌, ◌-◌, ◌&&◌, Bool, List, [], ◌∷◌, length, Option, Some, None, Result, Ok, Err, codes, if◌then◌else◌}
+use Rattle.std.specs.Prelude.{◌&&◌, Bool, List, [], ◌∷◌, length, Option, Some, None, Result, Ok, Err, codes, if◌then◌else◌}
 use Rattle.std.specs.Option.{option_map}
 use Rattle.std.specs.Str.{bytes_eq}
 use Rattle.phrases.specs.Parsers as p
@@ -20,10 +20,11 @@ use Rattle.voodoo_text.specs.declared.operator.Operator.TheVariants as o
 use Rattle.voodoo_text.specs.declared.operator.SingleOperator.{SingleOperator}
 use Rattle.voodoo_text.specs.declared.operator.SingleOperator.TheVariants as s
 use Rattle.voodoo_text.specs.Kinds.{fault_of}
-use Rattle.voodoo_text.specs.Values.{Bytes, integer_within, natural_within, admitted}
+use Rattle.voodoo_text.specs.Values.{Bytes, integer_within}
 use Rattle.voodoo_text.specs.Tokens.{Token}
-use Rattle.voodoo_text.specs.Operators.{operator_of, paired, folded, ranked}
-use Rattle.voodoo_text.specs.Places.{Parser, is, expect, name, path, number, operand, size, keys, next}
+use Rattle.programs.specs.Families.{pair_of, fold_of, rank_of}
+use Rattle.voodoo_text.specs.Operators.{operator_of}
+use Rattle.voodoo_text.specs.Places.{Parser, is, expect, name, path, attribute, control, number, operand, size, keys, next}
 
 -- ---- the arguments of each operator, in order
 
@@ -37,19 +38,14 @@ unfoldable pub range : Parser (Option Op)
 range = do
   n ← size
   out ← next path
-  start ← next (number (integer_within (2 ^ 63) (2 ^ 63 - 1)))
-  step ← next (number (natural_within (2 ^ 64 - 1)))
-  modulus ← next (number (natural_within (2 ^ 64 - 1)))
-  divisor ← next (number (natural_within (2 ^ 64 - 1)))
-  pure (option_map (op.Range n out) (admitted start step modulus divisor))
+  c ← next control
+  pure (option_map (op.Range n out) c)
 
 unfoldable pub cross : Parser Op
 cross = do
-  a ← name
-  q ← next path
-  b ← next name
-  r ← next path
-  pure (op.Cross a q b r)
+  v ← attribute
+  w ← next attribute
+  pure (op.Cross v.vector v.path w.vector w.path)
 
 unfoldable pub zip : Parser Op
 zip = do
@@ -59,43 +55,36 @@ zip = do
 
 unfoldable pub project : Parser Op
 project = do
-  a ← name
-  q ← next path
+  v ← attribute
   r ← next path
-  pure (op.Project a q r)
+  pure (op.Project v.vector v.path r)
 
 unfoldable pub upsert : Parser Op
 upsert = do
-  a ← name
-  q ← next path
-  b ← next name
-  r ← next path
-  pure (op.Upsert a q b r)
+  v ← attribute
+  w ← next attribute
+  pure (op.Upsert v.vector v.path w.vector w.path)
 
 unfoldable pub gather : Parser Op
 gather = do
   a ← name
-  b ← next name
-  pos ← next path
-  pure (op.Gather a b pos)
+  w ← next attribute
+  pure (op.Gather a w.vector w.path)
 
 unfoldable pub scatter : Parser Op
 scatter = do
   a ← name
   n ← next size
-  b ← next name
-  pos ← next path
-  pure (op.Scatter a n b pos)
+  w ← next attribute
+  pure (op.Scatter a n w.vector w.path)
 
 -- a Bucket or a Partition
 unfoldable pub rank : Parser RankArgs
 rank = do
-  a ← name
-  q ← next path
-  b ← next name
-  pivot ← next path
+  v ← attribute
+  w ← next attribute
   out ← next path
-  pure (record { a = a; key = q; b = b; pivot = pivot; out = out })
+  pure (record { a = v.vector; key = v.path; b = w.vector; pivot = w.path; out = out })
 
 unfoldable pub materialize : Parser Op
 materialize = do
@@ -109,19 +98,17 @@ break_ = do
 
 unfoldable pub fold : Parser FoldArgs
 fold = do
-  a ← name
-  val ← next path
+  v ← attribute
   run ← next path
   out ← next path
-  pure (record { a = a; val = val; run = run; out = out })
+  pure (record { a = v.vector; val = v.path; run = run; out = out })
 
 unfoldable pub order : Parser Op
 order = do
-  a ← name
-  mark ← next path
+  v ← attribute
   out ← next path
   ks ← keys
-  pure (op.Order a mark out ks)
+  pure (op.Order v.vector v.path out ks)
 
 -- an operator that works slot by slot
 unfoldable pub pair : Parser PairArgs
@@ -157,9 +144,9 @@ some make a = pure (Some (make a))
 unfoldable pub arguments : Operator → Parser (Option Op)
 arguments o.Range = range
 arguments (o.Single a) = single a >>= some (λ op. op)
-arguments (o.Rank a) = rank >>= some (ranked a)
-arguments (o.Fold a) = fold >>= some (folded a)
-arguments (o.Pair a) = pair >>= some (paired a)
+arguments (o.Rank a) = rank >>= some (rank_of a)
+arguments (o.Fold a) = fold >>= some (fold_of a)
+arguments (o.Pair a) = pair >>= some (pair_of a)
 
 -- ---- statements
 

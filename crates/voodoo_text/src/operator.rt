@@ -2,41 +2,9 @@
 
 ghost use Rattle.std.specs.Prelude.{◌≡◌, map};
 ghost use Rattle.voodoo_text.specs.Operators as spec;
-ghost use Rattle.voodoo_text.specs.Spelled.{IsName, HasNames, PairHasNames, RankHasNames};
 
-use programs::{FoldArgs, Op, PairArgs, RankArgs};
-
-/// An operator that works slot by slot on two operands.
-#[derive(Clone, Copy)]
-pub enum PairOperator {
-    Add,
-    Subtract,
-    Multiply,
-    Divide,
-    Modulo,
-    Greater,
-    Equals,
-    LogicalAnd,
-    LogicalOr,
-    Fill,
-}
-
-/// An operator that folds values in runs.
-#[derive(Clone, Copy)]
-pub enum FoldOperator {
-    Sum,
-    Min,
-    Max,
-    Select,
-    Scan,
-}
-
-/// An operator that ranks keys among pivots.
-#[derive(Clone, Copy)]
-pub enum RankOperator {
-    Bucket,
-    Partition,
-}
+use control_vectors::PairKind;
+use programs::{FoldOperator, RankOperator};
 
 /// An operator that shares its arguments with no other one.
 #[derive(Clone, Copy)]
@@ -61,7 +29,7 @@ pub enum Operator {
     Single(SingleOperator),
     Rank(RankOperator),
     Fold(FoldOperator),
-    Pair(PairOperator),
+    Pair(PairKind),
 }
 
 /// Each operator by its word.
@@ -87,17 +55,17 @@ const OPERATORS: [(&[u8], Operator); 29] = [
     (b"FoldSelect", Operator::Fold(FoldOperator::Select)),
     (b"FoldScan", Operator::Fold(FoldOperator::Scan)),
     (b"Order", Operator::Single(SingleOperator::Order)),
-    (b"Add", Operator::Pair(PairOperator::Add)),
-    (b"Subtract", Operator::Pair(PairOperator::Subtract)),
-    (b"Multiply", Operator::Pair(PairOperator::Multiply)),
-    (b"Divide", Operator::Pair(PairOperator::Divide)),
-    (b"Modulo", Operator::Pair(PairOperator::Modulo)),
+    (b"Add", Operator::Pair(PairKind::Add)),
+    (b"Subtract", Operator::Pair(PairKind::Subtract)),
+    (b"Multiply", Operator::Pair(PairKind::Multiply)),
+    (b"Divide", Operator::Pair(PairKind::Divide)),
+    (b"Modulo", Operator::Pair(PairKind::Modulo)),
     (b"BitShift", Operator::Single(SingleOperator::BitShift)),
-    (b"Greater", Operator::Pair(PairOperator::Greater)),
-    (b"Equals", Operator::Pair(PairOperator::Equals)),
-    (b"LogicalAnd", Operator::Pair(PairOperator::LogicalAnd)),
-    (b"LogicalOr", Operator::Pair(PairOperator::LogicalOr)),
-    (b"Fill", Operator::Pair(PairOperator::Fill)),
+    (b"Greater", Operator::Pair(PairKind::Greater)),
+    (b"Equals", Operator::Pair(PairKind::Equals)),
+    (b"LogicalAnd", Operator::Pair(PairKind::LogicalAnd)),
+    (b"LogicalOr", Operator::Pair(PairKind::LogicalOr)),
+    (b"Fill", Operator::Pair(PairKind::Fill)),
 ];
 
 /// The operator of a table that a word names.
@@ -121,46 +89,43 @@ pub(crate) fn operator_of(word: &[u8]) -> Option<Operator>
     lookup(&OPERATORS, word)
 }
 
-/// A slot-wise operator with its arguments.
-pub(crate) fn paired(operator: PairOperator, args: PairArgs) -> Op
-    ensures value { result ≡ spec.paired operator args }
-    ensures names { PairHasNames args → HasNames result }
+/// The word of a slot-wise operator.
+pub(crate) fn pair_word(kind: PairKind) -> &'static [u8]
+    ensures { result.now ≡ spec.pair_word kind }
 {
-    match operator {
-        PairOperator::Add => Op::Add(args),
-        PairOperator::Subtract => Op::Subtract(args),
-        PairOperator::Multiply => Op::Multiply(args),
-        PairOperator::Divide => Op::Divide(args),
-        PairOperator::Modulo => Op::Modulo(args),
-        PairOperator::Greater => Op::Greater(args),
-        PairOperator::Equals => Op::Equals(args),
-        PairOperator::LogicalAnd => Op::LogicalAnd(args),
-        PairOperator::LogicalOr => Op::LogicalOr(args),
-        PairOperator::Fill => Op::Fill(args),
+    match kind {
+        PairKind::Add => b"Add",
+        PairKind::Subtract => b"Subtract",
+        PairKind::Multiply => b"Multiply",
+        PairKind::Divide => b"Divide",
+        PairKind::Modulo => b"Modulo",
+        PairKind::Greater => b"Greater",
+        PairKind::Equals => b"Equals",
+        PairKind::LogicalAnd => b"LogicalAnd",
+        PairKind::LogicalOr => b"LogicalOr",
+        PairKind::Fill => b"Fill",
     }
 }
 
-/// A fold with its arguments.
-pub(crate) fn folded(operator: FoldOperator, args: FoldArgs) -> Op
-    ensures value { result ≡ spec.folded operator args }
-    ensures names { IsName args.a → HasNames result }
+/// The word of a fold.
+pub(crate) fn fold_word(kind: FoldOperator) -> &'static [u8]
+    ensures { result.now ≡ spec.fold_word kind }
 {
-    match operator {
-        FoldOperator::Sum => Op::FoldSum(args),
-        FoldOperator::Min => Op::FoldMin(args),
-        FoldOperator::Max => Op::FoldMax(args),
-        FoldOperator::Select => Op::FoldSelect(args),
-        FoldOperator::Scan => Op::FoldScan(args),
+    match kind {
+        FoldOperator::Sum => b"FoldSum",
+        FoldOperator::Min => b"FoldMin",
+        FoldOperator::Max => b"FoldMax",
+        FoldOperator::Select => b"FoldSelect",
+        FoldOperator::Scan => b"FoldScan",
     }
 }
 
-/// A Bucket or a Partition with its arguments.
-pub(crate) fn ranked(operator: RankOperator, args: RankArgs) -> Op
-    ensures value { result ≡ spec.ranked operator args }
-    ensures names { RankHasNames args → HasNames result }
+/// The word of a Bucket or a Partition.
+pub(crate) fn rank_word(kind: RankOperator) -> &'static [u8]
+    ensures { result.now ≡ spec.rank_word kind }
 {
-    match operator {
-        RankOperator::Bucket => Op::Bucket(args),
-        RankOperator::Partition => Op::Partition(args),
+    match kind {
+        RankOperator::Bucket => b"Bucket",
+        RankOperator::Partition => b"Partition",
     }
 }

@@ -14,6 +14,7 @@ use crate::kind::{Kind, fault_of, same_kind};
 use crate::line::{Line, Token};
 use crate::refusal::TextKind;
 use crate::{NoMemory, values};
+use control_vectors::ControlVector;
 use io_edge::Name;
 use key_paths::Path;
 use phrases::ReadError;
@@ -80,6 +81,36 @@ pub(crate) fn next_path(alloc: Global, line: &mut Line) -> Result<Path, ReadErro
 {
     expect(line, Kind::Comma)?;
     path(alloc, line)
+}
+
+/// An attribute, by its vector's name and its path.
+#[derive(Drop)]
+pub struct VectorPath {
+    pub vector: Name,
+    pub path: Path,
+}
+
+/// A name, and a path after a comma.
+#[tactic(auto, unfolding(crate::specs::Places::attribute))]
+pub(crate) fn attribute(alloc: Global, line: &mut Line) -> Result<VectorPath, ReadError<TextKind>>
+    ensures value { Reads (spec.attribute line.old) result line.new }
+    ensures form { IfOk result (λ v. IsName v.vector) }
+{
+    let vector = name(alloc, line)?;
+    let path = next_path(alloc, line)?;
+    Ok(VectorPath { vector, path })
+}
+
+/// An attribute after a comma.
+pub(crate) fn next_attribute(
+    alloc: Global,
+    line: &mut Line,
+) -> Result<VectorPath, ReadError<TextKind>>
+    ensures value { Reads (spec.next spec.attribute line.old) result line.new }
+    ensures form { IfOk result (λ v. IsName v.vector) }
+{
+    expect(line, Kind::Comma)?;
+    attribute(alloc, line)
 }
 
 /// A number from `-least` to `most`.
@@ -161,22 +192,59 @@ pub(crate) fn size(alloc: Global, line: &mut Line) -> Result<Size, ReadError<Tex
     }
 }
 
-/// The start of a Range, after a comma.
-pub(crate) fn next_start(line: &mut Line) -> Result<i64, ReadError<TextKind>>
-    ensures { Reads (spec.next (spec.number (spelled.integer_within (2 ^ 63) (2 ^ 63 - 1))) line.old) result line.new }
+/// A size after a comma.
+pub(crate) fn next_size(alloc: Global, line: &mut Line) -> Result<Size, ReadError<TextKind>>
+    ensures value { Reads (spec.next spec.size line.old) result line.new }
+    ensures names { IfOk result SizeHasName }
 {
     expect(line, Kind::Comma)?;
+    size(alloc, line)
+}
+
+/// An operand after a comma.
+pub(crate) fn next_operand(alloc: Global, line: &mut Line) -> Result<Operand, ReadError<TextKind>>
+    ensures value { Reads (spec.next spec.operand line.old) result line.new }
+    ensures names { IfOk result OperandHasName }
+{
+    expect(line, Kind::Comma)?;
+    operand(alloc, line)
+}
+
+/// The start of a Range.
+fn start(line: &mut Line) -> Result<i64, ReadError<TextKind>>
+    ensures { Reads (spec.number (spelled.integer_within (2 ^ 63) (2 ^ 63 - 1)) line.old) result line.new }
+{
     let z = integer(line, 1 << 63, (1 << 63) - 1)?;
     Ok(z as i64)
 }
 
 /// The step, the modulus or the divisor of a Range, after a comma.
-pub(crate) fn next_step(line: &mut Line) -> Result<u64, ReadError<TextKind>>
+fn next_step(line: &mut Line) -> Result<u64, ReadError<TextKind>>
     ensures { Reads (spec.next (spec.number (spelled.natural_within (2 ^ 64 - 1))) line.old) result line.new }
 {
     expect(line, Kind::Comma)?;
     let n = natural(line, 0xffff_ffff_ffff_ffff)?;
     Ok(n as u64)
+}
+
+/// The four numbers of a control vector; none where they are not admissible.
+#[tactic(auto, unfolding(crate::specs::Places::control))]
+fn control(line: &mut Line) -> Result<Option<ControlVector>, ReadError<TextKind>>
+    ensures { Reads (spec.control line.old) result line.new }
+{
+    let start = start(line)?;
+    let step = next_step(line)?;
+    let modulus = next_step(line)?;
+    let divisor = next_step(line)?;
+    Ok(values::admitted(start, step, modulus, divisor))
+}
+
+/// A control vector after a comma.
+pub(crate) fn next_control(line: &mut Line) -> Result<Option<ControlVector>, ReadError<TextKind>>
+    ensures { Reads (spec.next spec.control line.old) result line.new }
+{
+    expect(line, Kind::Comma)?;
+    control(line)
 }
 
 /// By how many bits to shift, after a comma.

@@ -1,7 +1,8 @@
 //! Programs printed.
 
 ghost use Rattle.std.specs.Prelude.{◌≡◌, ◌++◌, Ok, IfOk};
-ghost use Rattle.voodoo_text.specs.Canonical.{call, operator_word, arguments as words_of, target, line, text_of, statement_text};
+ghost use Rattle.programs.specs.Families.{family};
+ghost use Rattle.voodoo_text.specs.Canonical.{call, family_word, family_text, arguments as words_of, target, line, text_of};
 ghost use Rattle.voodoo_text.specs.Reading.{read_text};
 ghost use Rattle.voodoo_text.specs.Laws.{line_by_line};
 ghost use Rattle.voodoo_text.specs.Spelled.{CanBeSpelled, InRange};
@@ -11,7 +12,8 @@ use crate::calls::{
     write_fold, write_gather, write_name, write_names, write_order, write_pair, write_project,
     write_range, write_rank, write_scatter, write_shift, write_two,
 };
-use programs::{Op, Program, Statement};
+use crate::operator::{fold_word, pair_word, rank_word};
+use programs::{Family, Op, Program, Statement};
 use std::alloc::Global;
 
 /// The canonical text of a program that can be spelled: each name has the form of a path's segment, a
@@ -35,79 +37,63 @@ pub fn program_text(alloc: Global, p: &Program) -> Result<Vec<u8>, NoMemory>
 /// Appends the line of a statement.
 fn write_line(out: &mut Vec<u8>, statement: &Statement) -> Result<(), NoMemory>
     ensures text { IfOk result (λ _. out.new.items ≡ out.old.items ++ line statement.now) }
-    ensures range { IfOk result (λ _. InRange statement.now.op) }
+    ensures range { IfOk result (λ _. InRange (family statement.now.op)) }
 {
-    write_statement(out, statement)?;
+    write_statement(out, statement.name.text(), &statement.op)?;
     out.extend_from_slice(b"\n")
 }
 
-/// Appends a statement.
-fn write_statement(out: &mut Vec<u8>, statement: &Statement) -> Result<(), NoMemory>
-    ensures text { IfOk result (λ _. out.new.items ≡ out.old.items ++ statement_text statement.now) }
-    ensures range { IfOk result (λ _. InRange statement.now.op) }
+/// Appends a statement with a name and an operator of a family.
+fn write_statement(out: &mut Vec<u8>, name: &str, op: &Op) -> Result<(), NoMemory>
+    ensures text { IfOk result (λ _. out.new.items ≡ out.old.items ++ family_text name.now (family op.now)) }
+    ensures range { IfOk result (λ _. InRange (family op.now)) }
 {
-    let name = statement.name.text();
-    write_target(out, name, &statement.op)?;
-    write_operator(out, name, &statement.op)
+    write_target(out, name, op)?;
+    write_operator(out, name, op)
 }
 
 /// Appends what stands before an operator: the name that it gives its vector, but for a Persist.
 fn write_target(out: &mut Vec<u8>, name: &str, op: &Op) -> Result<(), NoMemory>
-    ensures { IfOk result (λ _. out.new.items ≡ out.old.items ++ target name.now op.now) }
+    ensures { IfOk result (λ _. out.new.items ≡ out.old.items ++ target name.now (family op.now)) }
 {
-    match op {
-        Op::Persist { .. } => Ok(()),
-        _ => {
-            out.extend_from_slice(name.as_bytes())?;
-            out.extend_from_slice(b" = ")
-        }
+    if op.persists() {
+        Ok(())
+    } else {
+        out.extend_from_slice(name.as_bytes())?;
+        out.extend_from_slice(b" = ")
     }
 }
 
 /// Appends an operator with its arguments.
 fn write_operator<'a>(out: &mut Vec<u8>, name: &'a str, op: &'a Op) -> Result<(), NoMemory>
-    ensures text { IfOk result (λ _. out.new.items ≡ out.old.items ++ call (operator_word op.now) (words_of name.now op.now)) }
-    ensures range { IfOk result (λ _. InRange op.now) }
+    ensures text { IfOk result (λ _. out.new.items ≡ out.old.items ++ call (family_word (family op.now)) (words_of name.now (family op.now))) }
+    ensures range { IfOk result (λ _. InRange (family op.now)) }
 {
-    match op {
-        Op::Load { table } => write_name(out, b"Load", table),
-        Op::Persist { a } => write_names(out, b"Persist", name, a),
-        Op::Range {
+    match op.family() {
+        Family::Load { table } => write_name(out, b"Load", table),
+        Family::Persist { a } => write_names(out, b"Persist", name, a),
+        Family::Range {
             size,
             out: path,
             control,
-        } => write_range(out, size, path, control),
-        Op::Cross { a, p, b, q } => write_two(out, b"Cross", a, p, b, q),
-        Op::Zip { a, b } => write_names(out, b"Zip", a.text(), b),
-        Op::Project { a, p, q } => write_project(out, a, p, q),
-        Op::Upsert { a, p, b, q } => write_two(out, b"Upsert", a, p, b, q),
-        Op::Gather { a, b, pos } => write_gather(out, a, b, pos),
-        Op::Scatter { a, size, b, pos } => write_scatter(out, a, size, b, pos),
-        Op::Bucket(args) => write_rank(out, b"Bucket", args),
-        Op::Partition(args) => write_rank(out, b"Partition", args),
-        Op::Materialize { a } => write_name(out, b"Materialize", a),
-        Op::Break { a } => write_name(out, b"Break", a),
-        Op::FoldSum(args) => write_fold(out, b"FoldSum", args),
-        Op::FoldMin(args) => write_fold(out, b"FoldMin", args),
-        Op::FoldMax(args) => write_fold(out, b"FoldMax", args),
-        Op::FoldSelect(args) => write_fold(out, b"FoldSelect", args),
-        Op::FoldScan(args) => write_fold(out, b"FoldScan", args),
-        Op::Order {
+        } => write_range(out, size, path, &control),
+        Family::Cross { a, p, b, q } => write_two(out, b"Cross", a, p, b, q),
+        Family::Zip { a, b } => write_names(out, b"Zip", a.text(), b),
+        Family::Project { a, p, q } => write_project(out, a, p, q),
+        Family::Upsert { a, p, b, q } => write_two(out, b"Upsert", a, p, b, q),
+        Family::Gather { a, b, pos } => write_gather(out, a, b, pos),
+        Family::Scatter { a, size, b, pos } => write_scatter(out, a, size, b, pos),
+        Family::Rank(kind, args) => write_rank(out, rank_word(kind), args),
+        Family::Materialize { a } => write_name(out, b"Materialize", a),
+        Family::Break { a } => write_name(out, b"Break", a),
+        Family::Fold(kind, args) => write_fold(out, fold_word(kind), args),
+        Family::Order {
             a,
             mark,
             out: path,
             keys,
         } => write_order(out, a, mark, path, keys),
-        Op::Add(args) => write_pair(out, b"Add", args),
-        Op::Subtract(args) => write_pair(out, b"Subtract", args),
-        Op::Multiply(args) => write_pair(out, b"Multiply", args),
-        Op::Divide(args) => write_pair(out, b"Divide", args),
-        Op::Modulo(args) => write_pair(out, b"Modulo", args),
-        Op::BitShift { x, by, out: path } => write_shift(out, x, *by, path),
-        Op::Greater(args) => write_pair(out, b"Greater", args),
-        Op::Equals(args) => write_pair(out, b"Equals", args),
-        Op::LogicalAnd(args) => write_pair(out, b"LogicalAnd", args),
-        Op::LogicalOr(args) => write_pair(out, b"LogicalOr", args),
-        Op::Fill(args) => write_pair(out, b"Fill", args),
+        Family::Pair(kind, args) => write_pair(out, pair_word(kind), args),
+        Family::BitShift { x, by, out: path } => write_shift(out, x, by, path),
     }
 }

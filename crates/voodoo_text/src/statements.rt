@@ -4,17 +4,16 @@ ghost use Rattle.std.specs.Prelude.{◌≡◌, Ok, IfOk, IfSome};
 ghost use Rattle.std.specs.Option.{option_map};
 ghost use Rattle.phrases.specs.Parsers.{Reads, Ends};
 ghost use Rattle.voodoo_text.specs.Statements as spec;
-ghost use Rattle.voodoo_text.specs.Spelled.{IsName, HasNames, PairHasNames, RankHasNames, StatementHasNames};
+ghost use Rattle.voodoo_text.specs.Spelled.{IsName, OpHasNames, PairHasNames, RankHasNames, StatementHasNames};
 
 use crate::kind::{Kind, same_kind};
 use crate::line::Line;
-use crate::operator::{Operator, SingleOperator, folded, operator_of, paired, ranked};
+use crate::operator::{Operator, SingleOperator, operator_of};
 use crate::places::{
-    expect, keys, name, next_name, next_path, next_shift, next_start, next_step, operand, refused,
-    size,
+    attribute, expect, keys, name, next_attribute, next_control, next_name, next_operand,
+    next_path, next_shift, next_size, operand, refused, size,
 };
 use crate::refusal::TextKind;
-use crate::values;
 use io_edge::Name;
 use phrases::ReadError;
 use programs::{FoldArgs, Op, PairArgs, RankArgs, Statement};
@@ -24,7 +23,7 @@ use std::alloc::Global;
 #[tactic(auto, unfolding(crate::specs::Statements::load))]
 fn load(alloc: Global, line: &mut Line) -> Result<Op, ReadError<TextKind>>
     ensures value { Reads (spec.load line.old) result line.new }
-    ensures names { IfOk result HasNames }
+    ensures names { IfOk result OpHasNames }
 {
     let table = name(alloc, line)?;
     Ok(Op::Load { table })
@@ -34,15 +33,11 @@ fn load(alloc: Global, line: &mut Line) -> Result<Op, ReadError<TextKind>>
 #[tactic(auto, unfolding(crate::specs::Statements::range))]
 fn range(alloc: Global, line: &mut Line) -> Result<Option<Op>, ReadError<TextKind>>
     ensures value { Reads (spec.range line.old) result line.new }
-    ensures names { IfOk result (λ made. IfSome made HasNames) }
+    ensures names { IfOk result (λ made. IfSome made OpHasNames) }
 {
     let size = size(alloc, line)?;
     let out = next_path(alloc, line)?;
-    let start = next_start(line)?;
-    let step = next_step(line)?;
-    let modulus = next_step(line)?;
-    let divisor = next_step(line)?;
-    match values::admitted(start, step, modulus, divisor) {
+    match next_control(line)? {
         Some(control) => Ok(Some(Op::Range { size, out, control })),
         None => Ok(None),
     }
@@ -52,20 +47,23 @@ fn range(alloc: Global, line: &mut Line) -> Result<Option<Op>, ReadError<TextKin
 #[tactic(auto, unfolding(crate::specs::Statements::cross))]
 fn cross(alloc: Global, line: &mut Line) -> Result<Op, ReadError<TextKind>>
     ensures value { Reads (spec.cross line.old) result line.new }
-    ensures names { IfOk result HasNames }
+    ensures names { IfOk result OpHasNames }
 {
-    let a = name(alloc, line)?;
-    let p = next_path(alloc, line)?;
-    let b = next_name(alloc, line)?;
-    let q = next_path(alloc, line)?;
-    Ok(Op::Cross { a, p, b, q })
+    let first = attribute(alloc, line)?;
+    let second = next_attribute(alloc, line)?;
+    Ok(Op::Cross {
+        a: first.vector,
+        p: first.path,
+        b: second.vector,
+        q: second.path,
+    })
 }
 
 /// `Zip(a, b)`
 #[tactic(auto, unfolding(crate::specs::Statements::zip))]
 fn zip(alloc: Global, line: &mut Line) -> Result<Op, ReadError<TextKind>>
     ensures value { Reads (spec.zip line.old) result line.new }
-    ensures names { IfOk result HasNames }
+    ensures names { IfOk result OpHasNames }
 {
     let a = name(alloc, line)?;
     let b = next_name(alloc, line)?;
@@ -76,51 +74,63 @@ fn zip(alloc: Global, line: &mut Line) -> Result<Op, ReadError<TextKind>>
 #[tactic(auto, unfolding(crate::specs::Statements::project))]
 fn project(alloc: Global, line: &mut Line) -> Result<Op, ReadError<TextKind>>
     ensures value { Reads (spec.project line.old) result line.new }
-    ensures names { IfOk result HasNames }
+    ensures names { IfOk result OpHasNames }
 {
-    let a = name(alloc, line)?;
-    let p = next_path(alloc, line)?;
+    let from = attribute(alloc, line)?;
     let q = next_path(alloc, line)?;
-    Ok(Op::Project { a, p, q })
+    Ok(Op::Project {
+        a: from.vector,
+        p: from.path,
+        q,
+    })
 }
 
 /// `Upsert(a, p, b, q)`
 #[tactic(auto, unfolding(crate::specs::Statements::upsert))]
 fn upsert(alloc: Global, line: &mut Line) -> Result<Op, ReadError<TextKind>>
     ensures value { Reads (spec.upsert line.old) result line.new }
-    ensures names { IfOk result HasNames }
+    ensures names { IfOk result OpHasNames }
 {
-    let a = name(alloc, line)?;
-    let p = next_path(alloc, line)?;
-    let b = next_name(alloc, line)?;
-    let q = next_path(alloc, line)?;
-    Ok(Op::Upsert { a, p, b, q })
+    let first = attribute(alloc, line)?;
+    let second = next_attribute(alloc, line)?;
+    Ok(Op::Upsert {
+        a: first.vector,
+        p: first.path,
+        b: second.vector,
+        q: second.path,
+    })
 }
 
 /// `Gather(a, b, pos)`
 #[tactic(auto, unfolding(crate::specs::Statements::gather))]
 fn gather(alloc: Global, line: &mut Line) -> Result<Op, ReadError<TextKind>>
     ensures value { Reads (spec.gather line.old) result line.new }
-    ensures names { IfOk result HasNames }
+    ensures names { IfOk result OpHasNames }
 {
     let a = name(alloc, line)?;
-    let b = next_name(alloc, line)?;
-    let pos = next_path(alloc, line)?;
-    Ok(Op::Gather { a, b, pos })
+    let at = next_attribute(alloc, line)?;
+    Ok(Op::Gather {
+        a,
+        b: at.vector,
+        pos: at.path,
+    })
 }
 
 /// `Scatter(a, size, b, pos)`
 #[tactic(auto, unfolding(crate::specs::Statements::scatter))]
 fn scatter(alloc: Global, line: &mut Line) -> Result<Op, ReadError<TextKind>>
     ensures value { Reads (spec.scatter line.old) result line.new }
-    ensures names { IfOk result HasNames }
+    ensures names { IfOk result OpHasNames }
 {
     let a = name(alloc, line)?;
-    expect(line, Kind::Comma)?;
-    let size = size(alloc, line)?;
-    let b = next_name(alloc, line)?;
-    let pos = next_path(alloc, line)?;
-    Ok(Op::Scatter { a, size, b, pos })
+    let size = next_size(alloc, line)?;
+    let at = next_attribute(alloc, line)?;
+    Ok(Op::Scatter {
+        a,
+        size,
+        b: at.vector,
+        pos: at.path,
+    })
 }
 
 /// The arguments of a Bucket or a Partition.
@@ -129,16 +139,14 @@ fn rank(alloc: Global, line: &mut Line) -> Result<RankArgs, ReadError<TextKind>>
     ensures value { Reads (spec.rank line.old) result line.new }
     ensures names { IfOk result RankHasNames }
 {
-    let a = name(alloc, line)?;
-    let key = next_path(alloc, line)?;
-    let b = next_name(alloc, line)?;
-    let pivot = next_path(alloc, line)?;
+    let keys = attribute(alloc, line)?;
+    let pivots = next_attribute(alloc, line)?;
     let out = next_path(alloc, line)?;
     Ok(RankArgs {
-        a,
-        key,
-        b,
-        pivot,
+        a: keys.vector,
+        key: keys.path,
+        b: pivots.vector,
+        pivot: pivots.path,
         out,
     })
 }
@@ -147,7 +155,7 @@ fn rank(alloc: Global, line: &mut Line) -> Result<RankArgs, ReadError<TextKind>>
 #[tactic(auto, unfolding(crate::specs::Statements::materialize))]
 fn materialize(alloc: Global, line: &mut Line) -> Result<Op, ReadError<TextKind>>
     ensures value { Reads (spec.materialize line.old) result line.new }
-    ensures names { IfOk result HasNames }
+    ensures names { IfOk result OpHasNames }
 {
     let a = name(alloc, line)?;
     Ok(Op::Materialize { a })
@@ -157,7 +165,7 @@ fn materialize(alloc: Global, line: &mut Line) -> Result<Op, ReadError<TextKind>
 #[tactic(auto, unfolding(crate::specs::Statements::break_))]
 fn break_(alloc: Global, line: &mut Line) -> Result<Op, ReadError<TextKind>>
     ensures value { Reads (spec.break_ line.old) result line.new }
-    ensures names { IfOk result HasNames }
+    ensures names { IfOk result OpHasNames }
 {
     let a = name(alloc, line)?;
     Ok(Op::Break { a })
@@ -169,24 +177,32 @@ fn fold(alloc: Global, line: &mut Line) -> Result<FoldArgs, ReadError<TextKind>>
     ensures value { Reads (spec.fold line.old) result line.new }
     ensures names { IfOk result (λ args. IsName args.a) }
 {
-    let a = name(alloc, line)?;
-    let val = next_path(alloc, line)?;
+    let values = attribute(alloc, line)?;
     let run = next_path(alloc, line)?;
     let out = next_path(alloc, line)?;
-    Ok(FoldArgs { a, val, run, out })
+    Ok(FoldArgs {
+        a: values.vector,
+        val: values.path,
+        run,
+        out,
+    })
 }
 
 /// `Order(a, mark, out, keys)`
 #[tactic(auto, unfolding(crate::specs::Statements::order))]
 fn order(alloc: Global, line: &mut Line) -> Result<Op, ReadError<TextKind>>
     ensures value { Reads (spec.order line.old) result line.new }
-    ensures names { IfOk result HasNames }
+    ensures names { IfOk result OpHasNames }
 {
-    let a = name(alloc, line)?;
-    let mark = next_path(alloc, line)?;
+    let marks = attribute(alloc, line)?;
     let out = next_path(alloc, line)?;
     let keys = keys(alloc, line)?;
-    Ok(Op::Order { a, mark, out, keys })
+    Ok(Op::Order {
+        a: marks.vector,
+        mark: marks.path,
+        out,
+        keys,
+    })
 }
 
 /// The arguments of an operator that works slot by slot.
@@ -196,8 +212,7 @@ fn pair(alloc: Global, line: &mut Line) -> Result<PairArgs, ReadError<TextKind>>
     ensures names { IfOk result PairHasNames }
 {
     let x = operand(alloc, line)?;
-    expect(line, Kind::Comma)?;
-    let y = operand(alloc, line)?;
+    let y = next_operand(alloc, line)?;
     let out = next_path(alloc, line)?;
     Ok(PairArgs { x, y, out })
 }
@@ -206,7 +221,7 @@ fn pair(alloc: Global, line: &mut Line) -> Result<PairArgs, ReadError<TextKind>>
 #[tactic(auto, unfolding(crate::specs::Statements::bit_shift))]
 fn bit_shift(alloc: Global, line: &mut Line) -> Result<Op, ReadError<TextKind>>
     ensures value { Reads (spec.bit_shift line.old) result line.new }
-    ensures names { IfOk result HasNames }
+    ensures names { IfOk result OpHasNames }
 {
     let x = operand(alloc, line)?;
     let by = next_shift(line)?;
@@ -222,7 +237,7 @@ fn single(
     operator: SingleOperator,
 ) -> Result<Op, ReadError<TextKind>>
     ensures value { Reads (spec.single operator line.old) result line.new }
-    ensures names { IfOk result HasNames }
+    ensures names { IfOk result OpHasNames }
 {
     match operator {
         SingleOperator::Load => load(alloc, line),
@@ -247,7 +262,7 @@ fn arguments(
     operator: Operator,
 ) -> Result<Option<Op>, ReadError<TextKind>>
     ensures value { Reads (spec.arguments operator line.old) result line.new }
-    ensures names { IfOk result (λ made. IfSome made HasNames) }
+    ensures names { IfOk result (λ made. IfSome made OpHasNames) }
 {
     match operator {
         Operator::Range => range(alloc, line),
@@ -255,17 +270,17 @@ fn arguments(
             let op = single(alloc, line, operator)?;
             Ok(Some(op))
         }
-        Operator::Rank(operator) => {
+        Operator::Rank(kind) => {
             let args = rank(alloc, line)?;
-            Ok(Some(ranked(operator, args)))
+            Ok(Some(Op::of_rank(kind, args)))
         }
-        Operator::Fold(operator) => {
+        Operator::Fold(kind) => {
             let args = fold(alloc, line)?;
-            Ok(Some(folded(operator, args)))
+            Ok(Some(Op::of_fold(kind, args)))
         }
-        Operator::Pair(operator) => {
+        Operator::Pair(kind) => {
             let args = pair(alloc, line)?;
-            Ok(Some(paired(operator, args)))
+            Ok(Some(Op::of_pair(kind, args)))
         }
     }
 }
@@ -288,7 +303,7 @@ fn operator(line: &mut Line) -> Result<Operator, ReadError<TextKind>>
 /// The statement that gives a name to what an operator makes.
 fn made(target: Name, op: Option<Op>) -> Option<Statement>
     requires target { IsName target }
-    requires names { IfSome op HasNames }
+    requires names { IfSome op OpHasNames }
     ensures value { result ≡ option_map (spec.statement target) op }
     ensures names { IfSome result StatementHasNames }
 {
