@@ -8,4 +8,5 @@ mod Levels
 mod Lenient
 mod LenientQueries
 mod QueryLaws
+mod LiteralLaws
 mod Examples

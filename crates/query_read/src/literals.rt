@@ -1,6 +1,6 @@
 //! What stands in text literals.
 
-ghost use Rattle.std.specs.Prelude.{◌≡◌, IfOk, false};
+ghost use Rattle.std.specs.Prelude.{◌≡◌, ◌≤◌, ◌∷◌, length, IfOk};
 ghost use Rattle.query_read.specs.Literals as spec;
 
 use io_edge::Name;
@@ -16,21 +16,28 @@ pub fn inner(text: &[u8], t: Token) -> &[u8]
     &rest[..rest.len().min((t.len as usize).saturating_sub(2))]
 }
 
+/// What follows a byte, without the second of two quotes.
+#[tactic(auto, unfolding(crate::specs::Literals::single_quoted))]
+fn after(b: u8, rest: &[u8]) -> &[u8]
+    ensures value { spec.single_quoted (b ∷ rest.now) ≡ b ∷ spec.single_quoted result.now }
+    ensures within { length result.now ≤ length rest.now }
+{
+    match rest {
+        [b'\'', more @ ..] if b == b'\'' => more,
+        _ => rest,
+    }
+}
+
 /// The value of what stands between quotes: two quotes in a row are one.
+#[tactic(auto, unfolding(crate::specs::Literals::single_quoted))]
 fn single_quoted(alloc: Global, z: &[u8]) -> Result<Vec<u8>, AllocError>
-    ensures { IfOk result (λ v. v.items ≡ spec.single_quoted false z.now) }
+    ensures { IfOk result (λ v. v.items ≡ spec.single_quoted z.now) }
 {
     let mut out = Vec::new(alloc);
-    let mut is_second = false;
     let mut ahead = z;
     while let [b, rest @ ..] = ahead {
-        if is_second {
-            is_second = false;
-        } else {
-            out.push(*b)?;
-            is_second = *b == b'\'';
-        }
-        ahead = rest;
+        out.push(*b)?;
+        ahead = after(*b, rest);
     }
     Ok(out)
 }

@@ -7,3 +7,4 @@ pub mod SchemaLaws
 mod Examples
 pub mod NameLaws
 pub mod FormLaws
+pub mod LiteralLaws

@@ -7,3 +7,4 @@ pub mod SchemaText
 pub mod Forms
 pub mod Reserved
 pub mod Examples
+pub mod Literals

@@ -1,9 +1,9 @@
-use Rattle.std.proofs.Common.{◌≡◌, ◌++◌, length, false}
+use Rattle.std.proofs.Common.{◌≡◌, ◌++◌, length}
 use Rattle.query_read.specs.Literals.{single_quoted}
 use Rattle.query_read.proofs.literals.single_quoted.Given as goal
 
 abbrev pub invariant-loop-ahead : goal.invariant-loop-ahead
-invariant-loop-ahead l = l.out.items ++ single_quoted l.is_second l.ahead ≡ single_quoted false l.z
+invariant-loop-ahead l = l.out.items ++ single_quoted l.ahead ≡ single_quoted l.z
 
 abbrev pub decreases-loop-ahead : goal.decreases-loop-ahead
 decreases-loop-ahead l = length l.ahead
