@@ -3,3 +3,4 @@ pub mod Aggregates
 pub mod Lists
 pub mod Narrow
 pub mod Parts
+pub mod Worked

@@ -8,3 +8,4 @@ pub mod Items
 pub mod Ordering
 pub mod Conjuncts
 pub mod Typing
+pub mod Examples

@@ -7,6 +7,7 @@ mod forms;
 mod groups;
 mod items;
 mod kinds;
+pub mod laws;
 mod names;
 mod ordering;
 mod outcome;
