@@ -47,12 +47,12 @@ signed_found s v (Some a) = by (v && lies_within (Some a))
     by true = signed_kept s a
     by false = refl
 
-joined_found : (o : BinaryOp) (v : Bool) (p : Option Interval) (w : Bool) (q : Option Interval) → n.joined o (found v p) (found w q) ≡ found ((v && lies_within p) && (w && lies_within q)) (rule.joined o p q)
+joined_found : (o : BinaryOp) (v : Bool) (p : Option Interval) (w : Bool) (q : Option Interval) → n.binary_bounds o (found v p) (found w q) ≡ found ((v && lies_within p) && (w && lies_within q)) (rule.binary_interval o p q)
 joined_found o true None w q = refl
 joined_found o false None w q = refl
 joined_found o v (Some a) w None = by (v && lies_within (Some a)) w
   where
-    by : (t w : Bool) → n.joined o (if t then Some a else None) (found w None) ≡ found (t && (w && false)) (rule.joined o (Some a) None)
+    by : (t w : Bool) → n.binary_bounds o (if t then Some a else None) (found w None) ≡ found (t && (w && false)) (rule.binary_interval o (Some a) None)
     by true true = refl
     by true false = refl
     by false w = refl
@@ -62,7 +62,7 @@ joined_found o v (Some a) w (Some b) = by (v && lies_within (Some a)) (w && lies
     either_way true = combined_kept o a b
     either_way false = refl
 
-    by : (t u : Bool) → n.joined o (if t then Some a else None) (if u then Some b else None) ≡ found (t && u) (rule.joined o (Some a) (Some b))
+    by : (t u : Bool) → n.binary_bounds o (if t then Some a else None) (if u then Some b else None) ≡ found (t && u) (rule.binary_interval o (Some a) (Some b))
     by true true = either_way (is_arithmetic o)
     by true false = refl
     by false u = refl
@@ -72,7 +72,7 @@ divisor_fits : (s : Sign) (k : ℕ) → fits_128 (pos k) ≡ true → FitsSigned
 divisor_fits sign.Plus k e = let h = FitsSigned-from_fits_128 (pos k) e in omega (arith, ints)
 divisor_fits sign.Minus k e = let h = FitsSigned-from_fits_128 (pos k) e in omega (arith, ints)
 
-by_none : (x : Option Interval) → n.divided x None ≡ None
+by_none : (x : Option Interval) → n.quotient_bounds x None ≡ None
 by_none None = refl
 by_none (Some a) = refl
 
@@ -80,7 +80,7 @@ off : (b : Bool) (p : Option Interval) → found (b && false) p ≡ None
 off true p = refl
 off false p = refl
 
-by_number : (d : ℤ) (v : Bool) (p : Option Interval) → n.divided (found v p) (Some d) ≡ found ((v && lies_within p) && true) (rule.divided p d)
+by_number : (d : ℤ) (v : Bool) (p : Option Interval) → n.quotient_bounds (found v p) (Some d) ≡ found ((v && lies_within p) && true) (rule.quotient_or_none p d)
 by_number d true None = refl
 by_number d false None = refl
 by_number d v (Some a) = by (v && lies_within (Some a))
@@ -89,16 +89,16 @@ by_number d v (Some a) = by (v && lies_within (Some a))
     either_way true = refl
     either_way false = quotient_kept a d
 
-    by : (t : Bool) → n.divided (if t then Some a else None) (Some d) ≡ found (t && true) (rule.divided (Some a) d)
+    by : (t : Bool) → n.quotient_bounds (if t then Some a else None) (Some d) ≡ found (t && true) (rule.quotient_or_none (Some a) d)
     by true = either_way (is_zero d)
     by false = refl
 
-divided_found : (s : Sign) (k : ℕ) (v : Bool) (p : Option Interval) → n.divided (found v p) (n.divisor s k) ≡ found ((v && lies_within p) && lies_within (Some (point (pos k)))) (rule.divided p (signed s (pos k)))
+divided_found : (s : Sign) (k : ℕ) (v : Bool) (p : Option Interval) → n.quotient_bounds (found v p) (n.divisor s k) ≡ found ((v && lies_within p) && lies_within (Some (point (pos k)))) (rule.quotient_or_none p (signed s (pos k)))
 divided_found s k v p = by (fits_128 (pos k)) refl
   where
-    by : (f : Bool) → fits_128 (pos k) ≡ f → n.divided (found v p) (if f then in_128_bits (signed s (pos k)) else None) ≡ found ((v && lies_within p) && (f && f)) (rule.divided p (signed s (pos k)))
-    by true e = ap (n.divided (found v p)) (in_128_bits_yes (signed s (pos k)) (divisor_fits s k e)) ∙ by_number (signed s (pos k)) v p
-    by false e = by_none (found v p) ∙ sym (off (v && lies_within p) (rule.divided p (signed s (pos k))))
+    by : (f : Bool) → fits_128 (pos k) ≡ f → n.quotient_bounds (found v p) (if f then in_128_bits (signed s (pos k)) else None) ≡ found ((v && lies_within p) && (f && f)) (rule.quotient_or_none p (signed s (pos k)))
+    by true e = ap (n.quotient_bounds (found v p)) (in_128_bits_yes (signed s (pos k)) (divisor_fits s k e)) ∙ by_number (signed s (pos k)) v p
+    by false e = by_none (found v p) ∙ sym (off (v && lies_within p) (rule.quotient_or_none p (signed s (pos k))))
 
 -- ---- truths, of which it is asked alone whether the operands have intervals
 
@@ -119,31 +119,31 @@ some_truth : (b : Bool) → is_some (n.truth_if b) ≡ b
 some_truth true = refl
 some_truth false = refl
 
-negated_as : (x : Bounds) → n.negated x ≡ n.truth_if (is_some x)
+negated_as : (x : Bounds) → n.not_bounds x ≡ n.truth_if (is_some x)
 negated_as None = refl
 negated_as (Some a) = refl
 
-tested_as : (x y : Bounds) → n.tested x y ≡ n.truth_if (is_some x && is_some y)
+tested_as : (x y : Bounds) → n.both_bounded x y ≡ n.truth_if (is_some x && is_some y)
 tested_as None y = refl
 tested_as (Some a) None = refl
 tested_as (Some a) (Some b) = refl
 
-not_found : (v : Bool) (p : Option Interval) → n.negated (found v p) ≡ found (v && lies_within p) (Some truth)
+not_found : (v : Bool) (p : Option Interval) → n.not_bounds (found v p) ≡ found (v && lies_within p) (Some truth)
 not_found v p = negated_as (found v p) ∙ (ap n.truth_if (some_found v p) ∙ truth_found (v && lies_within p))
 
 -- two bounds, by whether they are there
-both_tested : (x y : Bounds) (b c : Bool) → is_some x ≡ b → is_some y ≡ c → n.tested x y ≡ n.truth_if (b && c)
+both_tested : (x y : Bounds) (b c : Bool) → is_some x ≡ b → is_some y ≡ c → n.both_bounded x y ≡ n.truth_if (b && c)
 both_tested x y b c e f = tested_as x y ∙ (λ i. n.truth_if (e i && f i))
 
-between_found : (v w u : Bool) (p q r : Option Interval) → n.tested (found v p) (n.tested (found w q) (found u r)) ≡ found ((v && lies_within p) && ((w && lies_within q) && (u && lies_within r))) (Some truth)
+between_found : (v w u : Bool) (p q r : Option Interval) → n.both_bounded (found v p) (n.both_bounded (found w q) (found u r)) ≡ found ((v && lies_within p) && ((w && lies_within q) && (u && lies_within r))) (Some truth)
 between_found v w u p q r =
     let b = v && lies_within p in
     let c = w && lies_within q in
     let d = u && lies_within r in
-    let rest : n.tested (found w q) (found u r) ≡ n.truth_if (c && d) = both_tested (found w q) (found u r) c d (some_found w q) (some_found u r) in
-    both_tested (found v p) (n.tested (found w q) (found u r)) b (c && d) (some_found v p) (ap is_some rest ∙ some_truth (c && d)) ∙ truth_found (b && (c && d))
+    let rest : n.both_bounded (found w q) (found u r) ≡ n.truth_if (c && d) = both_tested (found w q) (found u r) c d (some_found w q) (some_found u r) in
+    both_tested (found v p) (n.both_bounded (found w q) (found u r)) b (c && d) (some_found v p) (ap is_some rest ∙ some_truth (c && d)) ∙ truth_found (b && (c && d))
 
-in_found : (v all : Bool) (p : Option Interval) → n.tested (found v p) (n.truth_if all) ≡ found ((v && lies_within p) && all) (Some truth)
+in_found : (v all : Bool) (p : Option Interval) → n.both_bounded (found v p) (n.truth_if all) ≡ found ((v && lies_within p) && all) (Some truth)
 in_found v all p = both_tested (found v p) (n.truth_if all) (v && lies_within p) all (some_found v p) (some_truth all) ∙ truth_found ((v && lies_within p) && all)
 
 -- ---- the parts of a form
@@ -227,24 +227,24 @@ by_layer (TypedExpr-F.Signed s x) =
     (ap (n.signed_bounds s) x.1 ∙ (signed_found s (below_narrow x.0) (interval_of x.0) ∙ ap (λ b. found b (option_map (signed_interval s) (interval_of x.0))) (sym (operand_narrow x.0))))
 by_layer (TypedExpr-F.Not x) =
     by_parts (TypedExpr-F.Not x.0)
-    (ap n.negated x.1 ∙ (not_found (below_narrow x.0) (interval_of x.0) ∙ ap (λ b. found b (Some truth)) (sym (operand_narrow x.0))))
+    (ap n.not_bounds x.1 ∙ (not_found (below_narrow x.0) (interval_of x.0) ∙ ap (λ b. found b (Some truth)) (sym (operand_narrow x.0))))
 by_layer (TypedExpr-F.Binary o x y) =
     by_parts (TypedExpr-F.Binary o x.0 y.0)
-    ((λ i. n.joined o (x.1 i) (y.1 i)) ∙ (joined_found o (below_narrow x.0) (interval_of x.0) (below_narrow y.0) (interval_of y.0)
-    ∙ ap (λ b. found b (rule.joined o (interval_of x.0) (interval_of y.0))) (sym (two_narrow x.0 y.0))))
+    ((λ i. n.binary_bounds o (x.1 i) (y.1 i)) ∙ (joined_found o (below_narrow x.0) (interval_of x.0) (below_narrow y.0) (interval_of y.0)
+    ∙ ap (λ b. found b (rule.binary_interval o (interval_of x.0) (interval_of y.0))) (sym (two_narrow x.0 y.0))))
 by_layer (TypedExpr-F.Divide x s k) =
     by_parts (TypedExpr-F.Divide x.0 s k)
-    (ap (λ p. n.divided p (n.divisor s k)) x.1 ∙ (divided_found s k (below_narrow x.0) (interval_of x.0)
-    ∙ ap (λ b. found b (rule.divided (interval_of x.0) (signed s (pos k)))) (sym (divide_narrow x.0 k))))
+    (ap (λ p. n.quotient_bounds p (n.divisor s k)) x.1 ∙ (divided_found s k (below_narrow x.0) (interval_of x.0)
+    ∙ ap (λ b. found b (rule.quotient_or_none (interval_of x.0) (signed s (pos k)))) (sym (divide_narrow x.0 k))))
 by_layer (TypedExpr-F.Between p x y z) =
     by_parts (TypedExpr-F.Between p x.0 y.0 z.0)
-    ((λ i. n.tested (x.1 i) (n.tested (y.1 i) (z.1 i)))
+    ((λ i. n.both_bounded (x.1 i) (n.both_bounded (y.1 i) (z.1 i)))
     ∙ (between_found (below_narrow x.0) (below_narrow y.0) (below_narrow z.0) (interval_of x.0) (interval_of y.0) (interval_of z.0)
     ∙ ap (λ b. found b (Some truth)) (sym (list_all-append is_narrow (parts x.0) (parts y.0 ++ parts z.0) ∙ (λ i. operand_narrow x.0 i && two_narrow y.0 z.0 i)))))
 by_layer (TypedExpr-F.In p x ys) =
     let all = list_all (λ (b : Bounds). is_some b) (map n.bounds (exprs ys)) in
     by_parts (TypedExpr-F.In p x.0 (exprs ys))
-    (ap (λ r. n.tested r (n.truth_if all)) x.1 ∙ (in_found (below_narrow x.0) all (interval_of x.0)
+    (ap (λ r. n.both_bounded r (n.truth_if all)) x.1 ∙ (in_found (below_narrow x.0) all (interval_of x.0)
     ∙ ap (λ b. found b (Some truth)) (sym (in_narrow x.0 ys))))
 
 bounds_found : (x : TypedExpr) → IsFound x

@@ -24,12 +24,12 @@ abbrev pub combined_intervals : BinaryOp → Option Interval → Option Interval
 combined_intervals o (Some a) (Some b) = Some (combined_interval o a b)
 combined_intervals o a b = None
 
-abbrev pub joined : BinaryOp → Option Interval → Option Interval → Option Interval
-joined o a b = if is_arithmetic o then combined_intervals o a b else Some truth
+abbrev pub binary_interval : BinaryOp → Option Interval → Option Interval → Option Interval
+binary_interval o a b = if is_arithmetic o then combined_intervals o a b else Some truth
 
 -- a quotient by 0 has none
-abbrev pub divided : Option Interval → ℤ → Option Interval
-divided a d = if is_zero d then None else option_map (λ i. quotient_interval i d) a
+abbrev pub quotient_or_none : Option Interval → ℤ → Option Interval
+quotient_or_none a d = if is_zero d then None else option_map (λ i. quotient_interval i d) a
 
 abbrev pub form_interval : TypedExpr-F (Option Interval) → Option Interval
 form_interval (TypedExpr-F.Number n) = Some (point (pos n))
@@ -39,8 +39,8 @@ form_interval (TypedExpr-F.Column c kind) = Some (of_kind kind)
 form_interval (TypedExpr-F.Aggregate n) = None
 form_interval (TypedExpr-F.Signed s a) = option_map (signed_interval s) a
 form_interval (TypedExpr-F.Not a) = Some truth
-form_interval (TypedExpr-F.Binary o a b) = joined o a b
-form_interval (TypedExpr-F.Divide a s n) = divided a (signed s (pos n))
+form_interval (TypedExpr-F.Binary o a b) = binary_interval o a b
+form_interval (TypedExpr-F.Divide a s n) = quotient_or_none a (signed s (pos n))
 form_interval (TypedExpr-F.Between p a b c) = Some truth
 form_interval (TypedExpr-F.In p a bs) = Some truth
 

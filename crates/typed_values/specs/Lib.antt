@@ -5,3 +5,4 @@ pub mod Sums
 pub mod Values
 pub mod Examples
 pub mod BoundExamples
+pub mod SumExamples

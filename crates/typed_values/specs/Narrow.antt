@@ -52,22 +52,22 @@ abbrev pub signed_bounds : Sign → Bounds → Bounds
 signed_bounds s None = None
 signed_bounds s (Some a) = signed_interval s a
 
-abbrev pub negated : Bounds → Bounds
-negated None = None
-negated (Some a) = Some truth
+abbrev pub not_bounds : Bounds → Bounds
+not_bounds None = None
+not_bounds (Some a) = Some truth
 
-abbrev pub joined : BinaryOp → Bounds → Bounds → Bounds
-joined o (Some a) (Some b) = if is_arithmetic o then combined_interval o a b else Some truth
-joined o a b = None
+abbrev pub binary_bounds : BinaryOp → Bounds → Bounds → Bounds
+binary_bounds o (Some a) (Some b) = if is_arithmetic o then combined_interval o a b else Some truth
+binary_bounds o a b = None
 
-abbrev pub divided : Bounds → Option ℤ → Bounds
-divided (Some a) (Some d) = quotient_interval a d
-divided a d = None
+abbrev pub quotient_bounds : Bounds → Option ℤ → Bounds
+quotient_bounds (Some a) (Some d) = quotient_interval a d
+quotient_bounds a d = None
 
 -- a truth of two parts
-abbrev pub tested : Bounds → Bounds → Bounds
-tested (Some a) (Some b) = Some truth
-tested a b = None
+abbrev pub both_bounded : Bounds → Bounds → Bounds
+both_bounded (Some a) (Some b) = Some truth
+both_bounded a b = None
 
 abbrev pub truth_if : Bool → Bounds
 truth_if true = Some truth
@@ -83,11 +83,11 @@ form_bounds (TypedExpr-F.Date day) = exact day
 form_bounds (TypedExpr-F.Column c kind) = Some (of_kind kind)
 form_bounds (TypedExpr-F.Aggregate n) = None
 form_bounds (TypedExpr-F.Signed s a) = signed_bounds s a
-form_bounds (TypedExpr-F.Not a) = negated a
-form_bounds (TypedExpr-F.Binary o a b) = joined o a b
-form_bounds (TypedExpr-F.Divide a s n) = divided a (divisor s n)
-form_bounds (TypedExpr-F.Between p a b c) = tested a (tested b c)
-form_bounds (TypedExpr-F.In p a bs) = tested a (all_bounded bs)
+form_bounds (TypedExpr-F.Not a) = not_bounds a
+form_bounds (TypedExpr-F.Binary o a b) = binary_bounds o a b
+form_bounds (TypedExpr-F.Divide a s n) = quotient_bounds a (divisor s n)
+form_bounds (TypedExpr-F.Between p a b c) = both_bounded a (both_bounded b c)
+form_bounds (TypedExpr-F.In p a bs) = both_bounded a (all_bounded bs)
 
 unfoldable pub bounds : TypedExpr → Bounds
 bounds = fold-TypedExpr Bounds form_bounds

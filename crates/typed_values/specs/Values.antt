@@ -44,18 +44,18 @@ or_over None = Err over
 abbrev pub exact : ℤ → Valued
 exact z = or_over (in_128_bits z)
 
-abbrev pub calculated : (ℤ → ℤ → ℤ) → Value → Value → Valued
-calculated f (number x) (number y) = exact (f x y)
-calculated f a b = Ok null
+abbrev pub arithmetic : (ℤ → ℤ → ℤ) → Value → Value → Valued
+arithmetic f (number x) (number y) = exact (f x y)
+arithmetic f a b = Ok null
 
 abbrev pub signed_value : Sign → Value → Valued
 signed_value s (number x) = exact (signed s x)
 signed_value s a = Ok null
 
 -- a quotient truncates
-abbrev pub divided : Value → Sign → ℕ → Valued
-divided (number x) s n = exact (int_div x (signed s (pos n)))
-divided a s n = Ok null
+abbrev pub quotient_value : Value → Sign → ℕ → Valued
+quotient_value (number x) s n = exact (int_div x (signed s (pos n)))
+quotient_value a s n = Ok null
 
 -- ---- comparisons: by the order of values; unknown, a null, beside a null
 
@@ -68,10 +68,10 @@ holds op.LessEqual r = not (is_gt r)
 holds op.Greater r = is_gt r
 holds o r = not (is_lt r)
 
-abbrev pub compared : BinaryOp → Value → Value → Value
-compared o null b = null
-compared o a null = null
-compared o a b = truth (holds o (by_value a b))
+abbrev pub comparison : BinaryOp → Value → Value → Value
+comparison o null b = null
+comparison o a null = null
+comparison o a b = truth (holds o (by_value a b))
 
 -- ---- truths, where null is unknown
 
@@ -94,22 +94,22 @@ by_polarity Negated a = opposite a
 
 -- x BETWEEN a AND b is x >= a AND x <= b
 abbrev pub between : Value → Value → Value → Value
-between x a b = both (compared op.GreaterEqual x a) (compared op.LessEqual x b)
+between x a b = both (comparison op.GreaterEqual x a) (comparison op.LessEqual x b)
 
 -- x IN (..) is an OR of equalities
 abbrev pub among : Value → List Value → Value
 among x [] = truth false
-among x (y ∷ ys) = either (compared op.Equal x y) (among x ys)
+among x (y ∷ ys) = either (comparison op.Equal x y) (among x ys)
 
 -- ---- expressions
 
-abbrev pub joined : BinaryOp → Value → Value → Valued
-joined op.Or a b = Ok (either a b)
-joined op.And a b = Ok (both a b)
-joined op.Add a b = calculated (combined op.Add) a b
-joined op.Subtract a b = calculated (combined op.Subtract) a b
-joined op.Multiply a b = calculated (combined op.Multiply) a b
-joined o a b = Ok (compared o a b)
+abbrev pub binary_value : BinaryOp → Value → Value → Valued
+binary_value op.Or a b = Ok (either a b)
+binary_value op.And a b = Ok (both a b)
+binary_value op.Add a b = arithmetic (combined op.Add) a b
+binary_value op.Subtract a b = arithmetic (combined op.Subtract) a b
+binary_value op.Multiply a b = arithmetic (combined op.Multiply) a b
+binary_value o a b = Ok (comparison o a b)
 
 abbrev pub more_valued : Value → Result (List Value) Over → Result (List Value) Over
 more_valued v (Ok vs) = Ok (v ∷ vs)
@@ -132,8 +132,8 @@ form_value on (TypedExpr-F.Column c kind) = Ok (on.column c)
 form_value on (TypedExpr-F.Aggregate n) = on.aggregate n
 form_value on (TypedExpr-F.Signed s a) = with a (signed_value s)
 form_value on (TypedExpr-F.Not a) = with a (λ v. Ok (opposite v))
-form_value on (TypedExpr-F.Binary o a b) = with_both a b (joined o)
-form_value on (TypedExpr-F.Divide a s n) = with a (λ v. divided v s n)
+form_value on (TypedExpr-F.Binary o a b) = with_both a b (binary_value o)
+form_value on (TypedExpr-F.Divide a s n) = with a (λ v. quotient_value v s n)
 form_value on (TypedExpr-F.Between p a b c) = with a (λ x. with_both b c (λ low high. Ok (by_polarity p (between x low high))))
 form_value on (TypedExpr-F.In p a bs) = with a (λ x. among_valued p x (all_valued bs))
 

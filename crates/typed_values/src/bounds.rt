@@ -19,7 +19,7 @@ fn truth() -> Interval
     from_to(0, 1)
 }
 
-fn signed(sign: Sign, a: Option<Interval>) -> Option<Interval>
+fn signed_bounds(sign: Sign, a: Option<Interval>) -> Option<Interval>
     ensures { result ≡ spec.signed_bounds sign a }
 {
     match a {
@@ -28,8 +28,8 @@ fn signed(sign: Sign, a: Option<Interval>) -> Option<Interval>
     }
 }
 
-fn negated(a: Option<Interval>) -> Option<Interval>
-    ensures { result ≡ spec.negated a }
+fn not_bounds(a: Option<Interval>) -> Option<Interval>
+    ensures { result ≡ spec.not_bounds a }
 {
     match a {
         None => None,
@@ -46,8 +46,8 @@ fn is_arithmetic(op: BinaryOp) -> bool
     }
 }
 
-fn joined(op: BinaryOp, a: Option<Interval>, b: Option<Interval>) -> Option<Interval>
-    ensures { result ≡ spec.joined op a b }
+fn binary_bounds(op: BinaryOp, a: Option<Interval>, b: Option<Interval>) -> Option<Interval>
+    ensures { result ≡ spec.binary_bounds op a b }
 {
     match (a, b) {
         (Some(a), Some(b)) => {
@@ -61,8 +61,8 @@ fn joined(op: BinaryOp, a: Option<Interval>, b: Option<Interval>) -> Option<Inte
     }
 }
 
-fn divided(a: Option<Interval>, by: Option<i128>) -> Option<Interval>
-    ensures { result ≡ spec.divided a by }
+fn quotient_bounds(a: Option<Interval>, by: Option<i128>) -> Option<Interval>
+    ensures { result ≡ spec.quotient_bounds a by }
 {
     match (a, by) {
         (Some(a), Some(d)) => quotient_interval(a, d),
@@ -70,8 +70,8 @@ fn divided(a: Option<Interval>, by: Option<i128>) -> Option<Interval>
     }
 }
 
-fn tested(a: Option<Interval>, b: Option<Interval>) -> Option<Interval>
-    ensures { result ≡ spec.tested a b }
+fn both_bounded(a: Option<Interval>, b: Option<Interval>) -> Option<Interval>
+    ensures { result ≡ spec.both_bounded a b }
 {
     match (a, b) {
         (Some(_), Some(_)) => Some(truth()),
@@ -109,14 +109,23 @@ fn bounds(e: &TypedExpr) -> Option<Interval>
         TypedExpr::Date(day) => date(*day),
         TypedExpr::Column(_, kind) => Some(of_kind(*kind)),
         TypedExpr::Aggregate(_) => None,
-        TypedExpr::Signed(sign, x) => signed(*sign, bounds(x.get())),
-        TypedExpr::Not(x) => negated(bounds(x.get())),
-        TypedExpr::Binary(op, x, y) => joined(*op, bounds(x.get()), bounds(y.get())),
-        TypedExpr::Divide(x, sign, digits) => divided(bounds(x.get()), divisor(*sign, *digits)),
+        TypedExpr::Signed(sign, x) => signed_bounds(*sign, bounds(x.get())),
+        TypedExpr::Not(x) => not_bounds(bounds(x.get())),
+        TypedExpr::Binary(op, x, y) => binary_bounds(*op, bounds(x.get()), bounds(y.get())),
+        TypedExpr::Divide(x, sign, digits) => quotient_bounds(
+            bounds(x.get()),
+            divisor(*sign, *digits),
+        ),
         TypedExpr::Between(_, x, y, z) => {
-            tested(bounds(x.get()), tested(bounds(y.get()), bounds(z.get())))
+            both_bounded(
+                bounds(x.get()),
+                both_bounded(bounds(y.get()), bounds(z.get())),
+            )
         }
-        TypedExpr::In(_, x, ys) => tested(bounds(x.get()), all_bounded(are_bounded(ys.as_slice()))),
+        TypedExpr::In(_, x, ys) => both_bounded(
+            bounds(x.get()),
+            all_bounded(are_bounded(ys.as_slice())),
+        ),
     }
 }
 

@@ -1,6 +1,7 @@
 //! Worked evaluations of each operator, each table stated once, as a contract.
 
 ghost use Rattle.typed_values.specs.BoundExamples.{IntervalTable, NarrowTable};
+ghost use Rattle.typed_values.specs.SumExamples.{AskedTable};
 ghost use Rattle.typed_values.specs.Examples.{AndTable, OrTable, NotTable, ComparisonTable, BetweenTable, InTable, SumTable, QuotientTable, NegativeTable, WholeTable};
 
 /// AND, OR and NOT over true, false, unknown and Over.
@@ -37,4 +38,9 @@ pub fn intervals()
 /// Which expressions cannot overflow.
 pub fn narrow()
     ensures { NarrowTable }
+{}
+
+/// Which queries are the sum of a column.
+pub fn sums_asked()
+    ensures { AskedTable }
 {}

@@ -15,7 +15,7 @@ use Rattle.typed_values.specs.Narrow.{literal, signed_interval, combined_interva
 use Rattle.typed_values.specs.Narrow as b
 use Rattle.typed_values.specs.Narrow.{Bounds}
 use Rattle.sql_values.specs.Values.{Value, number, text, truth, null}
-use Rattle.typed_values.specs.Values.{Valued, with, with_both, or_over, exact, calculated, signed_value, divided, compared, both, opposite, either, by_polarity, between, among, joined, more_valued, all_valued, among_valued}
+use Rattle.typed_values.specs.Values.{Valued, with, with_both, or_over, exact, arithmetic, signed_value, quotient_value, comparison, both, opposite, either, by_polarity, between, among, binary_value, more_valued, all_valued, among_valued}
 use Rattle.value_bounds.specs.Laws.{holds}
 use Rattle.value_bounds.proofs.Ends.{Covers, no_interval, covers_exact, literal_covers, signed_covers, combined_covers, quotient_covers}
 
@@ -90,7 +90,7 @@ both_free v w i = refl
 either_free : (v w : Value) → IsFree (either v w)
 either_free v w = opposite_free (both (opposite v) (opposite w))
 
-compared_free : (o : BinaryOp) (v w : Value) → IsFree (compared o v w)
+compared_free : (o : BinaryOp) (v w : Value) → IsFree (comparison o v w)
 compared_free o null w i = refl
 compared_free o v null i = refl
 compared_free o v w i = refl
@@ -100,11 +100,11 @@ by_polarity_free Plain v h = h
 by_polarity_free Negated v h = opposite_free v
 
 between_free : (x low high : Value) → IsFree (between x low high)
-between_free x low high = both_free (compared op.GreaterEqual x low) (compared op.LessEqual x high)
+between_free x low high = both_free (comparison op.GreaterEqual x low) (comparison op.LessEqual x high)
 
 among_free : (x : Value) (ys : List Value) → IsFree (among x ys)
 among_free x [] i = refl
-among_free x (y ∷ ys) i = either_free (compared op.Equal x y) (among x ys) i
+among_free x (y ∷ ys) i = either_free (comparison op.Equal x y) (among x ys) i
 
 -- ---- literals and columns
 
@@ -139,11 +139,11 @@ pub signed_bounded : (s : Sign) (p : Bounds) (f : Bool) (r : Valued) → IsBound
 signed_bounded s None f r h i e t = absurd (no_interval i e)
 signed_bounded s (Some a) f r h i e t = then_held a i r (signed_value s) (h a refl t) (λ v k. signed_held s a i v e k)
 
-pub not_bounded : (p : Bounds) (f : Bool) (r : Valued) → IsBounded p f r → IsBounded (b.negated p) f (with r (λ v. Ok (opposite v)))
+pub not_bounded : (p : Bounds) (f : Bool) (r : Valued) → IsBounded p f r → IsBounded (b.not_bounds p) f (with r (λ v. Ok (opposite v)))
 not_bounded None f r h i e t = absurd (no_interval i e)
 not_bounded (Some a) f r h i e t = then_held a i r (λ v. Ok (opposite v)) (h a refl t) (λ v k. opposite_free v i)
 
-calculated_held : (o : BinaryOp) (a c i : Interval) (v w : Value) → combined_interval o a c ≡ Some i → holds a v ≡ true → holds c w ≡ true → HasValue i (calculated (combined o) v w)
+calculated_held : (o : BinaryOp) (a c i : Interval) (v w : Value) → combined_interval o a c ≡ Some i → holds a v ≡ true → holds c w ≡ true → HasValue i (arithmetic (combined o) v w)
 calculated_held o a c i (number x) (number y) e h g =
     covered (combined_interval o a c) (combined o x y) i
     (combined_covers o a c x y (above_least a x h) (below_greatest a x h) (above_least c y g) (below_greatest c y g)) e
@@ -154,7 +154,7 @@ calculated_held o a c i (text t) w e h g = refl
 calculated_held o a c i (truth x) w e h g = refl
 calculated_held o a c i null w e h g = refl
 
-joined_held : (o : BinaryOp) (a c i : Interval) (v w : Value) → b.joined o (Some a) (Some c) ≡ Some i → holds a v ≡ true → holds c w ≡ true → HasValue i (joined o v w)
+joined_held : (o : BinaryOp) (a c i : Interval) (v w : Value) → b.binary_bounds o (Some a) (Some c) ≡ Some i → holds a v ≡ true → holds c w ≡ true → HasValue i (binary_value o v w)
 joined_held op.Add a c i v w e h g = calculated_held op.Add a c i v w e h g
 joined_held op.Subtract a c i v w e h g = calculated_held op.Subtract a c i v w e h g
 joined_held op.Multiply a c i v w e h g = calculated_held op.Multiply a c i v w e h g
@@ -167,12 +167,12 @@ joined_held op.LessEqual a c i v w e h g = compared_free op.LessEqual v w i
 joined_held op.Greater a c i v w e h g = compared_free op.Greater v w i
 joined_held op.GreaterEqual a c i v w e h g = compared_free op.GreaterEqual v w i
 
-pub binary_bounded : (o : BinaryOp) (p q : Bounds) (f g : Bool) (r s : Valued) → IsBounded p f r → IsBounded q g s → IsBounded (b.joined o p q) (f && g) (with_both r s (joined o))
+pub binary_bounded : (o : BinaryOp) (p q : Bounds) (f g : Bool) (r s : Valued) → IsBounded p f r → IsBounded q g s → IsBounded (b.binary_bounds o p q) (f && g) (with_both r s (binary_value o))
 binary_bounded o None q f g r s h k i e t = absurd (no_interval i e)
 binary_bounded o (Some a) None f g r s h k i e t = absurd (no_interval i e)
 binary_bounded o (Some a) (Some c) f g r s h k i e t =
-    then_held a i r (λ v. with s (joined o v)) (h a refl (and_left f g t)) (λ v hv.
-    then_held c i s (joined o v) (k c refl (and_right f g t)) (λ w hw. joined_held o a c i v w e hv hw))
+    then_held a i r (λ v. with s (binary_value o v)) (h a refl (and_left f g t)) (λ v hv.
+    then_held c i s (binary_value o v) (k c refl (and_right f g t)) (λ w hw. joined_held o a c i v w e hv hw))
 
 divisor_is : (s : Sign) (n : ℕ) (d : ℤ) → divisor s n ≡ Some d → signed s (pos n) ≡ d
 divisor_is s n d e = in_128_bits-some (signed s (pos n)) d (unless (fits_128 (pos n)) e)
@@ -181,7 +181,7 @@ divisor_is s n d e = in_128_bits-some (signed s (pos n)) d (unless (fits_128 (po
     unless true e = e
     unless false e = cc
 
-quotient_held : (s : Sign) (n : ℕ) (a i : Interval) (d : ℤ) (v : Value) → signed s (pos n) ≡ d → quotient_interval a d ≡ Some i → holds a v ≡ true → HasValue i (divided v s n)
+quotient_held : (s : Sign) (n : ℕ) (a i : Interval) (d : ℤ) (v : Value) → signed s (pos n) ≡ d → quotient_interval a d ≡ Some i → holds a v ≡ true → HasValue i (quotient_value v s n)
 quotient_held s n a i d (number z) is e h =
     subst (λ (k : ℤ). HasValue i (exact (int_div z k))) (sym is)
     (covered (quotient_interval a d) (int_div z d) i (quotient_covers a d z (above_least a z h) (below_greatest a z h)) e)
@@ -189,16 +189,16 @@ quotient_held s n a i d (text t) is e h = refl
 quotient_held s n a i d (truth x) is e h = refl
 quotient_held s n a i d null is e h = refl
 
-divided_held : (s : Sign) (n : ℕ) (a i : Interval) (d : Option ℤ) (v : Value) → divisor s n ≡ d → b.divided (Some a) d ≡ Some i → holds a v ≡ true → HasValue i (divided v s n)
+divided_held : (s : Sign) (n : ℕ) (a i : Interval) (d : Option ℤ) (v : Value) → divisor s n ≡ d → b.quotient_bounds (Some a) d ≡ Some i → holds a v ≡ true → HasValue i (quotient_value v s n)
 divided_held s n a i None v is e h = absurd (no_interval i e)
 divided_held s n a i (Some d) v is e h = quotient_held s n a i d v (divisor_is s n d is) e h
 
-pub divide_bounded : (s : Sign) (n : ℕ) (p : Bounds) (f : Bool) (r : Valued) → IsBounded p f r → IsBounded (b.divided p (divisor s n)) f (with r (λ v. divided v s n))
+pub divide_bounded : (s : Sign) (n : ℕ) (p : Bounds) (f : Bool) (r : Valued) → IsBounded p f r → IsBounded (b.quotient_bounds p (divisor s n)) f (with r (λ v. quotient_value v s n))
 divide_bounded s n None f r h i e t = absurd (no_interval i e)
 divide_bounded s n (Some a) f r h i e t =
-    then_held a i r (λ v. divided v s n) (h a refl t) (λ v k. divided_held s n a i (divisor s n) v refl e k)
+    then_held a i r (λ v. quotient_value v s n) (h a refl t) (λ v k. divided_held s n a i (divisor s n) v refl e k)
 
-pub between_bounded : (o : Polarity) (p q u : Bounds) (f g k : Bool) (r s x : Valued) → IsBounded p f r → IsBounded q g s → IsBounded u k x → IsBounded (b.tested p (b.tested q u)) (f && (g && k)) (with r (λ v. with_both s x (λ low high. Ok (by_polarity o (between v low high)))))
+pub between_bounded : (o : Polarity) (p q u : Bounds) (f g k : Bool) (r s x : Valued) → IsBounded p f r → IsBounded q g s → IsBounded u k x → IsBounded (b.both_bounded p (b.both_bounded q u)) (f && (g && k)) (with r (λ v. with_both s x (λ low high. Ok (by_polarity o (between v low high)))))
 between_bounded o None q u f g k r s x hr hs hx i e t = absurd (no_interval i e)
 between_bounded o (Some a) None u f g k r s x hr hs hx i e t = absurd (no_interval i e)
 between_bounded o (Some a) (Some c) None f g k r s x hr hs hx i e t = absurd (no_interval i e)
@@ -227,7 +227,7 @@ among_held : (o : Polarity) (i : Interval) (v : Value) (vs : Result (List Value)
 among_held o i v (Ok ws) h = by_polarity_free o (among v ws) (among_free v ws) i
 among_held o i v (Err x) h = absurd h
 
-pub in_bounded : (o : Polarity) (p : Bounds) (all f g : Bool) (r : Valued) (vs : Result (List Value) Over) → IsBounded p f r → (all ≡ true → g ≡ true → HasValues vs) → IsBounded (b.tested p (b.truth_if all)) (f && g) (with r (λ v. among_valued o v vs))
+pub in_bounded : (o : Polarity) (p : Bounds) (all f g : Bool) (r : Valued) (vs : Result (List Value) Over) → IsBounded p f r → (all ≡ true → g ≡ true → HasValues vs) → IsBounded (b.both_bounded p (b.truth_if all)) (f && g) (with r (λ v. among_valued o v vs))
 in_bounded o None all f g r vs h k i e t = absurd (no_interval i e)
 in_bounded o (Some a) false f g r vs h k i e t = absurd (no_interval i e)
 in_bounded o (Some a) true f g r vs h k i e t =
