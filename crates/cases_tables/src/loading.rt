@@ -1,6 +1,8 @@
 //! Tables from the bytes of their files.
 
-ghost use Rattle.std.specs.Prelude.{◌≡◌, ◌≤◌, ◌∷◌, [], length, vec_len, map, IfOk};
+ghost use Rattle.std.specs.Prelude.{◌≡◌, ◌∷◌, [], length, map, IfOk};
+ghost use Rattle.std.specs.List.{All};
+ghost use Rattle.sql_read.specs.Forms.{IsFormed};
 ghost use Rattle.sql_types.specs.Catalog.{findings};
 
 use crate::databases::{show_columns, show_counts};
@@ -54,7 +56,8 @@ fn show_tables(
     shown: Shown,
     files: &[u8],
 ) -> Result<(), AllocError>
-    requires { findings defs.now ≡ [] }
+    requires clean { findings defs.now ≡ [] }
+    requires formed { All IsFormed defs.now }
 {
     let first = spelled(alloc, before(files, b'|'))?;
     let second = spelled(alloc, after(files, b'|'))?;
@@ -73,6 +76,7 @@ fn show_one(
     bytes: &[u8],
 ) -> Result<(), AllocError>
     requires clean { findings defs.now ≡ [] }
+    requires formed { All IsFormed defs.now }
     requires one { length defs.now ≡ 1 }
 {
     if defs[0].columns.len() > 64 {
@@ -93,6 +97,7 @@ fn show_two(
     second: &[u8],
 ) -> Result<(), AllocError>
     requires clean { findings defs.now ≡ [] }
+    requires formed { All IsFormed defs.now }
     requires two { length defs.now ≡ 2 }
 {
     if defs[0].columns.len() > 64 || defs[1].columns.len() > 64 {
@@ -134,6 +139,7 @@ fn show_finished(
     tables: Vec<RawTable>,
 ) -> Result<(), AllocError>
     requires clean { findings defs.now ≡ [] }
+    requires formed { All IsFormed defs.now }
     requires loaded { map (λ t. t.degree) tables.items ≡ map (λ d. length d.columns) defs.now }
 {
     let data = finish(alloc, defs, tables)?;
