@@ -1,5 +1,4 @@
 pub mod Left
-pub mod DateFacts
 pub mod Rowwise
 pub mod RecordLaws
 pub mod KeyLaws
@@ -10,4 +9,6 @@ pub mod LoadLaws
 pub mod DictionaryFacts
 pub mod VectorFacts
 pub mod StoreFacts
+pub mod ColumnNames
+pub mod TextCounts
 pub mod Limits

@@ -20,9 +20,19 @@ one_at_least f (x ∷ xs) e = absurd (cc)
 few_of : (t : TableDef) → too_many_columns t ≡ [] → length t.columns ≤ 64
 few_of t e = omega (arith, one_at_least _ (drop 64 t.columns) e, length-drop 64 t.columns)
 
+-- nothing is wrong within a table of a catalog
+pub findings_at : (defs : List TableDef) (i : ℕ) (d : TableDef) → findings defs ≡ [] → i < length defs → table_findings (get_or defs i d) ≡ []
+unfolding findings
+findings_at defs i d e h =
+    let all = (both_empty (tables_twice defs) (flat_map table_findings defs) (both_empty (too_many_tables defs) _ e).1).1 in
+    one_empty table_findings defs i d all h
+
 -- each table of a catalog has at most 64 columns
 pub few_columns : (defs : List TableDef) (i : ℕ) (d : TableDef) → findings defs ≡ [] → i < length defs → length (get_or defs i d).columns ≤ 64
-unfolding findings table_findings
-few_columns defs i d e h =
-    let all = (both_empty (tables_twice defs) (flat_map table_findings defs) (both_empty (too_many_tables defs) _ e).1).1 in
-    few_of (get_or defs i d) (both_empty (too_many_columns (get_or defs i d)) _ (one_empty table_findings defs i d all h)).0
+unfolding table_findings
+few_columns defs i d e h = few_of (get_or defs i d) (both_empty (too_many_columns (get_or defs i d)) _ (findings_at defs i d e h)).0
+
+-- a catalog has at most 16 tables
+pub few_tables : (defs : List TableDef) → findings defs ≡ [] → length defs ≤ 16
+unfolding findings
+few_tables defs e = omega (arith, one_at_least _ (drop 16 defs) (both_empty (too_many_tables defs) _ e).0, length-drop 16 defs)

@@ -2,12 +2,13 @@
 use Rattle.std.specs.Prelude.{Bool, false, ℕ, ℤ, pos, List, [], ◌∷◌, length, Option, Some, None, Result, Ok, Err, if◌then◌else◌, nat_lt, slice_index_or}
 use Rattle.std.specs.Ordering.{int_eq}
 use Rattle.std.specs.Str.{bytes_eq, is_utf8}
+use Rattle.civil_days.specs.Dates.{day_number}
 use Rattle.sql_read.specs.declared.definition.ColumnKind.{ColumnKind}
 use Rattle.sql_read.specs.declared.definition.ColumnKind.TheVariants as kind
 use Rattle.sql_read.specs.declared.definition.ColumnDef.{ColumnDef}
 use Rattle.table_load.specs.declared.refusal.DataKind.{DataKind}
 use Rattle.table_load.specs.declared.refusal.DataKind.TheVariants.{NotDate, NotText, TextTooLong}
-use Rattle.table_load.specs.Fields.{day_number, integer_value}
+use Rattle.table_load.specs.Fields.{integer_value}
 
 -- a whole number, also a date as its day number from 1970-01-01 on, or a text
 pub data Value : Type 0 where

@@ -1,6 +1,9 @@
 -- The attributes of a table as it is held, with its texts as codes.
-use Rattle.std.specs.Prelude.{ℕ, ℤ, pos, Bool, true, false, List, [], ◌∷◌, map, slice_index_or}
+use Rattle.std.specs.Prelude.{◌≡◌, ◌≢◌, ℕ, ◌≤◌, ◌==◌, ◌&&◌, ℤ, pos, Bool, true, false, List, [], ◌∷◌, length, map, slice_index_or}
+use Rattle.std.specs.List.{All, AllPairs}
 use Rattle.sql_read.specs.declared.definition.ColumnDef.{ColumnDef}
+use Rattle.sql_read.specs.declared.definition.TableDef.{TableDef}
+use Rattle.sql_read.specs.Forms.{is_name, IsNamed}
 use Rattle.struct_vectors.specs.Columns.{ColumnValue, narrow, some_slots}
 use Rattle.table_load.specs.Databases.{path_of}
 use Rattle.table_load.specs.Held.{code_of}
@@ -22,3 +25,22 @@ attributes_in codes ks cs [] = []
 attributes_in codes [] cs (d ∷ ds) = []
 attributes_in codes (k ∷ ks) [] (d ∷ ds) = []
 attributes_in codes (k ∷ ks) (c ∷ cs) (d ∷ ds) = attribute_in codes d k c ∷ attributes_in codes ks cs ds
+
+-- ---- definitions whose columns make a vector
+
+-- 1 to 64 columns, each with a name, and no two with one
+pub record HasColumns (def : TableDef) : Type 0 where
+  pub some : 1 ≤ length def.columns
+  pub few : length def.columns ≤ 64
+  pub named : All IsNamed def.columns
+  pub apart : AllPairs (λ a b. a.name ≢ b.name) def.columns
+
+-- a dot and a name
+abbrev pub is_column_path : List ℕ → Bool
+is_column_path [] = false
+is_column_path (b ∷ name) = b == 46 && is_name name
+
+-- paths of columns, no two of which are equal
+pub record AreColumnPaths (paths : List (List ℕ)) : Type 0 where
+  pub each : All (λ p. is_column_path p ≡ true) paths
+  pub apart : AllPairs (λ p q. p ≢ q) paths

@@ -1,6 +1,8 @@
 //! The database of some tables.
 
 ghost use Rattle.std.specs.Prelude.{◌≡◌, [], length, map, IfOk};
+ghost use Rattle.std.specs.List.{All};
+ghost use Rattle.sql_read.specs.Forms.{IsFormed};
 ghost use Rattle.sql_types.specs.Catalog.{findings};
 ghost use Rattle.table_load.specs.Databases.{database_of};
 
@@ -58,9 +60,10 @@ impl Database {
 }
 
 /// The database of tables that were loaded, each by the definition at its place. Nothing is wrong with the definitions, by
-/// the rules of the catalog, and each has at least one column. It fails only for want of memory.
+/// the rules of the catalog, and they have the form of a schema's. It fails only for want of memory.
 pub fn finish(alloc: Global, defs: &[TableDef], tables: Vec<RawTable>) -> Result<Database, NoMemory>
     requires clean { findings defs.now ≡ [] }
+    requires formed { All IsFormed defs.now }
     requires loaded { map (λ t. t.degree) tables.items ≡ map (λ d. length d.columns) defs.now }
     ensures { IfOk result (λ d. d ≡ database_of defs.now tables.items) }
 {

@@ -1,6 +1,7 @@
 //! The dictionary of all tables, and the codes of a table's texts in it.
 
-ghost use Rattle.std.specs.Prelude.{◌≡◌, ◌++◌, [], map, pos, IfOk, OnOk};
+ghost use Rattle.std.specs.Prelude.{◌≡◌, ◌≤◌, ◌+◌, ◌^◌, ◌++◌, [], length, map, pos, IfOk, OnOk};
+ghost use Rattle.std.specs.List.{All};
 ghost use Rattle.dict_codes.specs.Dictionaries.{dictionary_of, rank_in};
 ghost use Rattle.table_load.specs.Databases.{rows_texts, tables_texts};
 ghost use Rattle.table_load.specs.Held.{noted};
@@ -8,28 +9,26 @@ ghost use Rattle.table_load.specs.Held.{noted};
 use crate::RawTable;
 use dict_codes::Dictionary;
 use io_edge::{Name, NoMemory};
-use std::alloc::{AllocError, Global};
+use std::alloc::Global;
 
-/// The greatest number of texts, over all tables, before equal ones of two tables are one.
-const MOST_TEXTS: usize = 4_294_967_295;
-
-/// The dictionary of the texts of some tables.
+/// The dictionary of the texts of at most 16 tables of at most 64 columns each.
 pub fn dictionary_of_tables(alloc: Global, tables: &[RawTable]) -> Result<Dictionary, NoMemory>
+    requires few { length tables.now ≤ 16 }
+    requires narrow { All (λ t. t.degree ≤ 64) tables.now }
     ensures { IfOk result (λ d. d ≡ dictionary_of (tables_texts tables.now)) }
 {
     let mut texts = Vec::new(alloc);
     for table in tables {
         add_texts(alloc, &mut texts, table)?;
     }
-    if texts.len() > MOST_TEXTS {
-        return Err(AllocError);
-    }
     Dictionary::from_texts(alloc, texts)
 }
 
-/// Adds a table's distinct texts.
+/// Adds a table's distinct texts: at most 64 of each of its 2^20 rows.
 fn add_texts(alloc: Global, texts: &mut Vec<Name>, table: &RawTable) -> Result<(), NoMemory>
-    ensures { OnOk result (texts.new.items ≡ texts.old.items ++ noted [] (rows_texts table.now.rows)) }
+    requires narrow { table.now.degree ≤ 64 }
+    ensures texts { OnOk result (texts.new.items ≡ texts.old.items ++ noted [] (rows_texts table.now.rows)) }
+    ensures few { OnOk result (length texts.new.items ≤ length texts.old.items + 2 ^ 26) }
 {
     for text in table.texts.as_slice() {
         texts.push(text.copied(alloc)?)?;

@@ -9,9 +9,9 @@ ghost use Rattle.table_load.specs.Reading.{ReadsField, ReadsFields};
 ghost use Rattle.table_load.specs.Values.{field_value, field_values, text_field};
 
 use crate::DataKind;
-use crate::dates::day_of;
 use crate::integers::integer_of;
 use crate::texts::Texts;
+use civil_days::day_of;
 use csv::ByteRecord;
 use io_edge::NoMemory;
 use sql_read::{ColumnDef, ColumnKind};
@@ -66,7 +66,7 @@ fn read_text(
             }
             match texts.note(alloc, text) {
                 Ok(place) => Ok(place),
-                Err(_) => Err(FieldRefusal::NoMemory),
+                Err(AllocError) => Err(FieldRefusal::NoMemory),
             }
         }
         Err(_) => Err(FieldRefusal::Bad(DataKind::NotText)),
@@ -91,7 +91,7 @@ pub fn read_fields(
     cells.clear();
     'columns: for i in 0..columns.len() {
         let Some(field) = row.get(i) else {
-            return Err(AllocError);
+            unreachable!()
         };
         match read_field(alloc, &columns[i], field, texts) {
             Ok(cell) => cells.push(cell)?,

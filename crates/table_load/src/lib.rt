@@ -4,7 +4,6 @@
 mod columns;
 mod copies;
 mod database;
-mod dates;
 mod dictionaries;
 mod fields;
 mod header;

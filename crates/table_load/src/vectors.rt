@@ -4,12 +4,13 @@ ghost use Rattle.std.specs.Prelude.{◌≡◌, ◌≤◌, ◌<◌, ◌^◌, ◌+
 ghost use Rattle.std.specs.List.{All};
 ghost use Rattle.dict_codes.specs.Ascending.{ascending};
 ghost use Rattle.dict_codes.specs.Dictionaries.{by_bytes};
+ghost use Rattle.sql_read.specs.Forms.{is_name, IsFormed, IsNamed};
 ghost use Rattle.sql_types.specs.Catalog.{findings};
-ghost use Rattle.struct_vectors.specs.Vectors.{IsBelowRoot, vector_of};
+ghost use Rattle.struct_vectors.specs.Vectors.{HaveLength, paths_of, vector_of};
 ghost use Rattle.table_load.specs.Columns.{columns_in};
 ghost use Rattle.table_load.specs.Databases.{store_of, vector_of_table};
 ghost use Rattle.table_load.specs.Held.{AreColumns, IsCell, IsCode};
-ghost use Rattle.table_load.specs.Vectors.{attribute_in, attributes_in, cell_code, recoded};
+ghost use Rattle.table_load.specs.Vectors.{AreColumnPaths, HasColumns, attribute_in, attributes_in, cell_code, recoded};
 
 use crate::RawTable;
 use crate::dictionaries::codes_of;
@@ -18,7 +19,7 @@ use io_edge::{Name, NoMemory};
 use key_paths::Path;
 use sql_read::{ColumnDef, TableDef};
 use std::alloc::{AllocError, Global};
-use struct_vectors::{Column, Store, StructVector};
+use struct_vectors::{Column, ShapeRefusal, Store, StructVector};
 
 /// The store of the vectors of tables.
 pub fn store_of_tables(
@@ -28,6 +29,7 @@ pub fn store_of_tables(
     dictionary: &Dictionary,
 ) -> Result<Store, NoMemory>
     requires clean { findings defs.now ≡ [] }
+    requires formed { All IsFormed defs.now }
     requires loaded { map (λ t. t.degree) tables.items ≡ map (λ d. length d.columns) defs.now }
     ensures { IfOk result (λ s. s ≡ store_of dictionary.now defs.now tables.items) }
 {
@@ -42,6 +44,7 @@ fn vectors_of_tables(
     tables: Vec<RawTable>,
     dictionary: &Dictionary,
 ) -> Result<Vec<(Name, StructVector)>, NoMemory>
+    requires columns { All HasColumns defs.now }
     requires loaded { map (λ t. t.degree) tables.items ≡ map (λ d. length d.columns) defs.now }
     ensures { IfOk result (λ v. v.items ≡ store_of dictionary.now defs.now tables.items) }
 {
@@ -67,6 +70,7 @@ fn vector_of(
     table: RawTable,
     dictionary: &Dictionary,
 ) -> Result<StructVector, NoMemory>
+    requires columns { HasColumns def.now }
     requires loaded { table.degree ≡ length def.now.columns }
     ensures { IfOk result (λ v. v ≡ vector_of_table dictionary.now def.now table) }
 {
@@ -93,17 +97,19 @@ fn vector_of_attributes(
     count: u32,
     attributes: Vec<(Path, Column)>,
 ) -> Result<StructVector, NoMemory>
-    requires few { count ≤ 2 ^ 20 }
-    requires named { All (λ a. IsBelowRoot a.0) attributes.items }
+    requires few_slots { count ≤ 2 ^ 20 }
+    requires some { 1 ≤ length attributes.items }
+    requires few { length attributes.items ≤ 64 }
+    requires lengths { HaveLength count attributes.items }
+    requires paths { AreColumnPaths (paths_of attributes.items) }
     ensures { IfOk result (λ v. v ≡ vector_of count (ascending (λ a b. by_bytes a.0 b.0) attributes.items)) }
 {
-    if attributes.is_empty() || attributes.len() > 4_294_967_295 {
-        return Err(AllocError);
-    }
-    // Columns of one table have one length, and their paths differ and are not nested: so it fails for want of memory alone.
     match StructVector::new(alloc, count, attributes) {
         Ok(vector) => Ok(vector),
-        Err(_) => Err(AllocError),
+        Err(ShapeRefusal::NoMemory) => Err(AllocError),
+        Err(ShapeRefusal::LengthDiffers { attribute: _ }) => unreachable!(),
+        Err(ShapeRefusal::PathRepeated { path: _ }) => unreachable!(),
+        Err(ShapeRefusal::PathNested { above: _, path: _ }) => unreachable!(),
     }
 }
 
@@ -117,8 +123,8 @@ fn attributes_of(
 ) -> Result<Vec<(Path, Column)>, NoMemory>
     requires whole { (n : ℕ) × (n ≤ 2 ^ 20) × AreColumns (length codes.now) n are_texts.now (columns_in columns.items) }
     requires lengths { length are_texts.now ≡ length defs.now }
-    ensures attributes { IfOk result (λ v. v.items ≡ attributes_in codes.now are_texts.now (columns_in columns.items) defs.now) }
-    ensures named { IfOk result (λ v. All (λ a. IsBelowRoot a.0) v.items) }
+    requires named { All IsNamed defs.now }
+    ensures { IfOk result (λ v. v.items ≡ attributes_in codes.now are_texts.now (columns_in columns.items) defs.now) }
 {
     let mut attributes = Vec::with_capacity(alloc, defs.len())?;
     let mut i = 0;
@@ -139,10 +145,10 @@ fn attribute_of(
     is_text: bool,
     codes: &[i64],
 ) -> Result<(Path, Column), NoMemory>
+    requires named { IsNamed def.now }
     requires few { length numbers.items ≤ 2 ^ 22 }
     requires cells { All (IsCell (length codes.now) is_text) numbers.items }
-    ensures attribute { IfOk result (λ a. a ≡ attribute_in codes.now def.now is_text numbers.items) }
-    ensures named { IfOk result (λ a. IsBelowRoot a.0) }
+    ensures { IfOk result (λ a. a ≡ attribute_in codes.now def.now is_text numbers.items) }
 {
     let path = path_of(alloc, def.name.text())?;
     if !is_text {
@@ -154,20 +160,13 @@ fn attribute_of(
 
 /// The path of a column: a dot and its name.
 fn path_of(alloc: Global, name: &str) -> Result<Path, NoMemory>
-    ensures path { IfOk result (λ p. p ≡ 46 ∷ name.now) }
-    ensures named { IfOk result IsBelowRoot }
+    requires { is_name name.now ≡ true }
+    ensures { IfOk result (λ p. p ≡ 46 ∷ name.now) }
 {
-    // A name has 1 to 64 bytes, so that a path of it can be had.
-    if name.is_empty() || name.len() > 64 {
-        return Err(AllocError);
-    }
     let mut text = String::new(alloc);
     text.push('.')?;
     text.push_str(name)?;
-    match Path::read(alloc, text.as_str()) {
-        Ok(path) => Ok(path),
-        Err(_) => Err(AllocError),
-    }
+    Path::of(alloc, text.as_str())
 }
 
 /// The codes of the texts that cells name.

@@ -4,7 +4,7 @@ use Rattle.std.proofs.lemmas.List.{get_or-map, length-map}
 use Rattle.csv.specs.Records.{fields_of}
 use Rattle.table_load.specs.Held.{is_text_column, text_columns, value_of, values_of}
 use Rattle.table_load.specs.Values.{field_value, field_values}
-use Rattle.table_load.proofs.FieldLaws.{cell_more, cells_empty, oks-push, value_step, values_empty}
+use Rattle.table_load.proofs.FieldLaws.{cell_more, cells_empty, field_missing, oks-push, value_step, values_empty}
 use Rattle.table_load.proofs.RecordLaws.{oks}
 use Rattle.table_load.proofs.Rowwise.{noted_none}
 use Rattle.table_load.proofs.fields.read_fields.Goals as goal
@@ -51,3 +51,11 @@ columns-preserved c =
       noted_are = more.noted_are;
       as_many = length-append c.columns.cells.items (c.in-Ok.cell ∷ []) ∙ ap (λ n. n + 1) c.columns.invariant.as_many;
     })
+
+-- a record has a field for each column
+pub unreachable-requires : goal.unreachable-requires
+unreachable-requires c =
+    let none = sym c.get.ensures.value ∙ ap (option_map (λ (s : Bor (List ℕ)). s.now)) c.in_default.is in
+    let short = field_missing (fields_of c.args.row.now) c.columns.i none in
+    let within = c.columns-test.true in
+    absurd (omega (arith, short, within, c.requires.lengths))

@@ -1,9 +1,6 @@
 use Rattle.std.proofs.Common.{rules, ◌≡◌, ◌∙◌, ◌+◌, ◌++◌, ◌∷◌, [], false, length, drop, get_or, sym, ap, subst, arith, append_assoc, append-nil}
-use Rattle.std.specs.List.{All}
 use Rattle.std.specs.Vec.Iter.{into_iter_items}
 use Rattle.std.proofs.lemmas.Grind.{common_steps}
-use Rattle.std.proofs.lemmas.List.Elements.{All-push}
-use Rattle.struct_vectors.specs.Vectors.{IsBelowRoot}
 use Rattle.table_load.specs.Columns.{columns_in}
 use Rattle.table_load.specs.Held.{AreColumns}
 use Rattle.table_load.specs.Vectors.{attribute_in, attributes_in}
@@ -23,10 +20,7 @@ loop-numbers-preserved-then-i-are_texts c =
     let next = next_attribute codes (length codes) n i ks defs c.in-Some.numbers.items (columns_in (into_iter_items c.next.new.self)) c.index-defs-i.result whole c.requires.lengths in
     let later = attributes_in codes (drop (i + 1) ks) (columns_in (into_iter_items c.next.new.self)) (drop (i + 1) defs) in
     let pushed : c.push.new.self.items ≡ before ++ attribute_in codes (get_or defs i c.index-defs-i.result) (get_or ks i false) c.in-Some.numbers.items ∷ [] =
-    c.in_ok-push.ensures.items ∙ ap (λ a. before ++ a ∷ []) (c.in_ok-attribute_of.ensures.attribute ∙ ap (λ d. attribute_in codes d (get_or ks i false) c.in-Some.numbers.items) c.index-defs-i.is)
-    in
-    let named : All (λ a. IsBelowRoot a.0) c.push.new.self.items =
-    subst (All (λ a. IsBelowRoot a.0)) (sym c.in_ok-push.ensures.items) (All-push (λ a. IsBelowRoot a.0) before c.in_ok-attribute_of.field-0 c.loop-numbers.invariant.named c.in_ok-attribute_of.ensures.named)
+    c.in_ok-push.ensures.items ∙ ap (λ a. before ++ a ∷ []) (c.in_ok-attribute_of.ensures ∙ ap (λ d. attribute_in codes d (get_or ks i false) c.in-Some.numbers.items) c.index-defs-i.is)
     in
     record {
       so_far =
@@ -36,11 +30,10 @@ loop-numbers-preserved-then-i-are_texts c =
           ∙ ap (λ l. before ++ attributes_in codes (drop i ks) (columns_in l) (drop i defs)) (sym rest)
           ∙ c.loop-numbers.invariant.so_far;
       whole = (n, small, next.whole);
-      named = named;
     }
 
-pub returns-clause-attributes : goal.returns-clause-attributes
-returns-clause-attributes c =
+pub returns : goal.returns
+returns c =
     let (n, small, w) = c.loop-numbers.invariant.whole in
     let i = c.loop-numbers.i in
     let before = c.loop-numbers.attributes.items in

@@ -1,7 +1,5 @@
 use Rattle.std.proofs.Common.{◌≡◌, ◌≤◌, ◌^◌, ◌++◌, ℕ, drop, length}
-use Rattle.std.specs.List.{All}
 use Rattle.std.specs.Vec.Iter.{into_iter_items}
-use Rattle.struct_vectors.specs.Vectors.{IsBelowRoot}
 use Rattle.table_load.specs.Columns.{columns_in}
 use Rattle.table_load.specs.Held.{AreColumns}
 use Rattle.table_load.specs.Vectors.{attributes_in}
@@ -11,5 +9,4 @@ abbrev pub invariant-loop-numbers : goal.invariant-loop-numbers
 invariant-loop-numbers l = record {
   so_far : l.attributes.items ++ attributes_in l.codes (drop l.i l.are_texts) (columns_in (into_iter_items l.numbers-iterator)) (drop l.i l.defs) ≡ attributes_in l.codes l.are_texts (columns_in l.fn.columns.items) l.defs;
   whole : (n : ℕ) × (n ≤ 2 ^ 20) × AreColumns (length l.codes) n (drop l.i l.are_texts) (columns_in (into_iter_items l.numbers-iterator));
-  named : All (λ a. IsBelowRoot a.0) l.attributes.items;
 }
