@@ -1,4 +1,4 @@
-//! Reads a case from each line, and prints the line with what became of it: columns, vectors, and the kernels of the
+//! Reads a case from each line, and prints the line and below it what became of it: columns, vectors, and the kernels of the
 //! operators over them.
 //!
 //! A column is written as its slots, `-` for an empty one. `#7` stands for the number 7 at every place, and `/` stands
@@ -73,7 +73,7 @@ fn main(rt: HostRuntime) -> io::Result<()> {
         } else {
             let mut told = String::new(rt.alloc());
             answer(rt.alloc(), line.as_str(), &mut told)?;
-            println!(rt; "{line} ={told}")?;
+            println!(rt; "{line}\n   {told}")?;
         }
     }
     Ok(())

@@ -1,4 +1,4 @@
-//! Reads a case from each line, and prints the line with what became of it: the rules of numbers of 128 bits, exact
+//! Reads a case from each line, and prints the line and below it what became of it: the rules of numbers of 128 bits, exact
 //! totals, control vectors and key paths.
 //!
 //! | case | answer |
@@ -238,7 +238,7 @@ fn main(rt: HostRuntime) -> io::Result<()> {
             println!(rt; "{line}")?;
         } else {
             let told = answer(rt.alloc(), line.as_str())?;
-            println!(rt; "{line} = {told}")?;
+            println!(rt; "{line}\n    {told}")?;
         }
     }
     Ok(())

@@ -20,6 +20,3 @@ pub use refusal::{PathKind, PathRefusal};
 
 /// Memory ran out: the one refusal of a call that only allocates.
 pub type NoMemory = AllocError;
-
-#[cfg(test)]
-mod tests;

@@ -14,6 +14,3 @@ pub use stop::Stop;
 
 /// Memory ran out: the one refusal of a call that only allocates.
 pub type NoMemory = AllocError;
-
-#[cfg(test)]
-mod tests;

@@ -9,6 +9,3 @@ mod run_ends;
 mod stretches;
 
 pub use folding::{fold_runs, scan_runs, select_runs};
-
-#[cfg(test)]
-mod tests;

@@ -19,6 +19,3 @@ pub use scattering::writers;
 
 /// Memory ran out: the one refusal of a call that only allocates.
 pub type NoMemory = AllocError;
-
-#[cfg(test)]
-mod tests;

@@ -13,6 +13,3 @@ pub mod source;
 pub use pairing::pairs;
 pub use shifting::shifts;
 pub use source::{Source, common_len};
-
-#[cfg(test)]
-mod tests;

@@ -61,6 +61,3 @@ pub trait KeySource {
         requires place { i < places self.now }
         ensures { slice_get (slice_index_or (keys self.now) k no_key).cells i ≡ Some result };
 }
-
-#[cfg(test)]
-mod tests;

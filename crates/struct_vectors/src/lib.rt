@@ -22,6 +22,3 @@ pub use vectors::StructVector;
 
 /// Memory ran out: the one refusal of a call that only allocates.
 pub type NoMemory = AllocError;
-
-#[cfg(test)]
-mod tests;
