@@ -12,7 +12,7 @@ use Rattle.phrases.proofs.Good.{Fits, Gapped, Some}
 use Rattle.phrases.proofs.Deeper.{Rel, Within}
 
 -- of two ways to cut a list, the front with the shorter rest goes on with the other's
-front_goes_on : {T : Type 0} (before text short : List T) (t : T) (post : List T) → text ++ short ≡ before ++ t ∷ post → length short < length (t ∷ post) → (more : List T) × (text ≡ (before ++ t ∷ []) ++ more)
+pub front_goes_on : {T : Type 0} (before text short : List T) (t : T) (post : List T) → text ++ short ≡ before ++ t ∷ post → length short < length (t ∷ post) → (more : List T) × (text ≡ (before ++ t ∷ []) ++ more)
 front_goes_on [] [] short t post e h = let x = ap length e in absurd (omega arith)
 front_goes_on [] (u ∷ text) short t post e h = (text, (let x : u ≡ t = cc in ap (λ y. y ∷ text) x))
 front_goes_on (b ∷ before) [] short t post e h = let x = ap length e in absurd (omega (arith, length-append before (t ∷ post)))

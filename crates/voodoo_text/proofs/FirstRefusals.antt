@@ -1,10 +1,10 @@
 -- A line has but one first refusal, and none where it spells a statement.
-use Rattle.std.proofs.Common.{◌≡◌, ℕ, ◌<◌, List, [], ◌∷◌, ◌++◌, length, refl, ap, sym, ◌∙◌, subst, ◌⊎◌, inl, inr, ⊎_elim, append_assoc, append-nil, length-append, arith}
+use Rattle.std.proofs.Common.{◌≡◌, ℕ, ◌<◌, List, [], ◌∷◌, ◌++◌, length, refl, ap, sym, ◌∙◌, subst, ◌⊎◌, inl, inr, ⊎_elim, append_assoc, append-nil, arith}
 use Rattle.std.specs.Prelude.{Option, None}
 use Rattle.std.proofs.lemmas.Bool.{cases_order}
 use Rattle.phrases.specs.declared.refusal.ReadError.TheVariants.{Refused}
 use Rattle.phrases.specs.Promise.{Begins, EndsNone, GoesOn}
-use Rattle.phrases.proofs.Easing.{same_cut}
+use Rattle.phrases.proofs.Easing.{front_goes_on, same_cut}
 use Rattle.programs.specs.declared.op.Statement.{Statement}
 use Rattle.voodoo_text.specs.declared.kind.Kind.TheVariants as k
 use Rattle.voodoo_text.specs.declared.refusal.TextKind.{TextKind}
@@ -24,22 +24,11 @@ no_line : (before rest : List Token) (x : Option Statement) → Ends before rest
 no_line before [] x e l = e x (subst (λ y. line ranges y x) (append-nil before) l)
 no_line before (t ∷ rest) x e l = e (record { more = rest; value = x; reads = subst (λ y. line ranges y x) (sym (append_assoc before (t ∷ []) rest)) l })
 
--- of two ways to cut a list, the longer front goes on with the other's next token
-goes_past : (before text short : List Token) (t : Token) (post : List Token) → text ++ short ≡ before ++ t ∷ post → length short < length (t ∷ post) → (more : List Token) × (text ≡ (before ++ t ∷ []) ++ more)
-goes_past [] [] short t post e h = let x = ap length e in absurd (omega arith)
-goes_past [] (u ∷ text) short t post e h = let x : u ≡ t = cc in (text, ap (λ y. y ∷ text) x)
-goes_past (b ∷ before) [] short t post e h = let x = ap length e in absurd (omega (arith, length-append before (t ∷ post)))
-goes_past (b ∷ before) (u ∷ text) short t post e h =
-    let x : u ≡ b = cc in
-    let y : text ++ short ≡ before ++ t ∷ post = cc in
-    let z = goes_past before text short t post y h in
-    (z.0, (λ i. x i ∷ z.1 i))
-
 -- nothing that begins a line is longer than what a line ends behind
 no_longer : (before rest text short : List Token) → Ends before rest → Begins (line ranges) text → text ++ short ≡ before ++ rest → length short < length rest → ⊥
 no_longer before [] text short e b cut lt = omega arith
 no_longer before (t ∷ post) text short e b cut lt =
-    let z = goes_past before text short t post cut lt in
+    let z = front_goes_on before text short t post cut lt in
     e (record { more = z.0 ++ b.more; value = b.value; reads = subst (λ x. line ranges x b.value) (ap (λ x. x ++ b.more) z.1 ∙ append_assoc (before ++ t ∷ []) z.0 b.more) b.reads })
 
 one_end : (a b c d : List Token) → Ends a b → Ends c d → Begins (line ranges) a → Begins (line ranges) c → a ++ b ≡ c ++ d → length b ≡ length d
