@@ -7,20 +7,10 @@ use Rattle.phrases.specs.declared.refusal.ReadError.TheVariants.{NoMemory, Refus
 use Rattle.phrases.specs.Phrases.{Phrase}
 use Rattle.phrases.specs.Parsers.{Parser, Outcome, ended}
 use Rattle.phrases.specs.Promise.{Begins, EndsNone, GoesOn, IsRefused}
+use Rattle.phrases.proofs.Cuts.{front_goes_on}
 use Rattle.phrases.proofs.Good.{Good, Some}
 use Rattle.phrases.proofs.Whole.{Still, no_text, read_sound, read_complete, read_refuses}
 use Rattle.phrases.proofs.Deeper.{Rel, Within}
-
--- of two ways to cut a list, the front with the shorter rest goes on with the other's
-front_goes_on : {T : Type 0} (before text short : List T) (t : T) (post : List T) → text ++ short ≡ before ++ t ∷ post → length short < length (t ∷ post) → (more : List T) × (text ≡ (before ++ t ∷ []) ++ more)
-front_goes_on [] [] short t post e h = let x = ap length e in absurd (omega arith)
-front_goes_on [] (u ∷ text) short t post e h = (text, (let x : u ≡ t = cc in ap (λ y. y ∷ text) x))
-front_goes_on (b ∷ before) [] short t post e h = let x = ap length e in absurd (omega (arith, length-append before (t ∷ post)))
-front_goes_on (b ∷ before) (u ∷ text) short t post e h =
-    let x : u ≡ b = cc in
-    let y : text ++ short ≡ before ++ t ∷ post = cc in
-    let z = front_goes_on before text short t post y h in
-    (z.0, (λ i. x i ∷ z.1 i))
 
 module _ {T F A : Type 0} (G : ℕ → Phrase T A) (stop : T → Bool) (p : ℕ → Parser T F A) (good : (n : ℕ) → Good (G n) stop (p n)) (some : (n : ℕ) → Some (G n)) (deep over : F) (other : over ≡ deep → ⊥) (rel : (n : ℕ) → Rel deep (p n) (p (suc n))) where
   sound : (n : ℕ) (ts : List T) (a : A) → ended over (p n ts) ≡ Ok a → G n ts a

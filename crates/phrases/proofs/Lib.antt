@@ -1,3 +1,4 @@
+pub mod Cuts
 pub mod Good
 pub mod Repeats
 pub mod Shapes

@@ -1,5 +1,5 @@
 -- Worked examples of reading: short queries with their trees, and texts with their first refusals. Each is a theorem.
-use Rattle.std.specs.Prelude.{◌≡◌, ℕ, List, [], ◌∷◌, ◌++◌, replicate, codes, pos, Some, None, Ok, Err}
+use Rattle.std.specs.Prelude.{◌≡◌, ℕ, [], ◌∷◌, ◌++◌, replicate, codes, pos, Some, None, Ok, Err}
 use Rattle.sql_read.specs.declared.refusal.SqlKind.{SqlKind}
 use Rattle.sql_read.specs.declared.refusal.SqlKind.TheVariants.{BadToken, NumberTooWide, Unexpected, TooDeep, DateRange}
 use Rattle.sql_read.specs.declared.refusal.SqlRefusal.TheVariants.{Bad}

@@ -14,7 +14,6 @@ use Rattle.query_trees.specs.declared.expr.AggregateKind.TheVariants as aggregat
 use Rattle.query_trees.specs.declared.expr.ColumnName.{ColumnName}
 use Rattle.query_trees.specs.declared.expr.Divisor.{Divisor}
 use Rattle.query_trees.specs.declared.expr.Expr.{Expr}
-use Rattle.query_trees.specs.declared.expr.Form.{Form}
 use Rattle.query_trees.specs.declared.expr.Form.TheVariants as f
 use Rattle.query_trees.specs.declared.clauses.Alias.{Alias}
 use Rattle.query_trees.specs.declared.clauses.SelectList.{SelectList}

@@ -4,13 +4,13 @@ ghost use Rattle.std.specs.Prelude.{◌≡◌};
 ghost use Rattle.phrases.specs.Parsers.{Reads};
 ghost use Rattle.query_read.specs.ExpressionParsers as spec;
 
-use crate::expecting::{Class, expect, expect_of, is_next, is_next_of, refused};
+use crate::expecting::{Class, expect, expect_of, is_next_of, refused};
 use crate::fault::Fault;
 use crate::literals::content;
 use crate::nodes::{bare, divided, divisor_of, qualified, sign_of};
 use phrases::{Cursor, ReadError};
 use query_trees::{ColumnName, Divisor, Expr, Form, node};
-use sql_read::{Kind, Token};
+use sql_read::{Kind, Token, is_next};
 use std::alloc::Global;
 
 #[tactic(auto, unfolding(crate::specs::ExpressionParsers::number))]

@@ -8,14 +8,14 @@ ghost use Rattle.query_read.specs.ExpressionParsers as rules;
 ghost use Rattle.query_read.specs.ClauseParsers as spec;
 
 use crate::atoms::column;
-use crate::expecting::{expect, is_next};
+use crate::expecting::expect;
 use crate::expr::expr;
 use crate::fault::Fault;
 use crate::grouping::Grouping;
 use crate::sources::alias;
 use phrases::{Cursor, ReadError};
 use query_trees::{ColumnName, Direction, Expr, SelectItem, SelectList, SortBy, SortKey};
-use sql_read::{Kind, Listing, Token};
+use sql_read::{Kind, Listing, Token, is_next};
 use std::alloc::Global;
 
 /// `item = expr [[AS] name]`

@@ -3,14 +3,13 @@
 ghost use Rattle.std.specs.Prelude.{◌≡◌, length, Some, None, Err};
 ghost use Rattle.phrases.specs.Parsers.{Reads, next, head, refuse};
 ghost use Rattle.phrases.specs.Parsers as parsers;
-ghost use Rattle.sql_read.specs.Schema as grammar;
 ghost use Rattle.query_read.specs.Nodes as nodes;
 ghost use Rattle.query_read.specs.Classes as classes;
 ghost use Rattle.query_read.specs.ExpressionParsers as spec;
 
 use crate::fault::Fault;
 use phrases::{Cursor, ReadError};
-use sql_read::{Kind, Token, same_kind};
+use sql_read::{Kind, Token, expect_kind, is_next};
 
 /// Kinds of tokens that stand in one place.
 #[derive(Clone, Copy)]
@@ -62,28 +61,11 @@ pub fn refused(tokens: &Cursor<'_, Token>, fault: Fault) -> ReadError<Fault>
     ReadError::Refused(fault, tokens.left())
 }
 
-/// Whether the next token is of the kind.
-pub fn is_next(tokens: &Cursor<'_, Token>, kind: Kind) -> bool
-    ensures { result ≡ next (grammar.is kind) tokens.now }
-{
-    match tokens.first() {
-        None => false,
-        Some(t) => same_kind(t.kind, kind),
-    }
-}
-
 /// The next token, which is of the kind.
-#[tactic(auto, unfolding(phrases::specs::Parsers::expect))]
 pub fn expect(tokens: &mut Cursor<'_, Token>, kind: Kind) -> Result<Token, ReadError<Fault>>
     ensures { Reads (spec.expect kind tokens.old) result tokens.new }
 {
-    match tokens.first() {
-        Some(t) if same_kind(t.kind, kind) => {
-            let _taken = tokens.take();
-            Ok(t)
-        }
-        _ => Err(refused(tokens, Fault::Unexpected)),
-    }
+    expect_kind(tokens, kind, Fault::Unexpected)
 }
 
 /// Whether the next token is of the class.

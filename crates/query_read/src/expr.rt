@@ -8,12 +8,12 @@ ghost use Rattle.query_read.specs.ExpressionParsers as spec;
 use crate::atoms::{count, literal, number, over, reference};
 use crate::dates::date;
 use crate::enclosing::Enclosure;
-use crate::expecting::{Class, expect, expect_of, is_next, is_next_of, refused, shut};
+use crate::expecting::{Class, expect, expect_of, is_next_of, refused, shut};
 use crate::fault::Fault;
 use crate::nodes::{aggregated, between_node, binary, comparison, in_node, signed_node, sum_op};
 use phrases::{Cursor, ReadError};
 use query_trees::{BinaryOp, Expr, Form, Polarity, node};
-use sql_read::{Kind, Token};
+use sql_read::{Kind, Token, is_next};
 use sqlite_items::Items;
 use std::alloc::Global;
 

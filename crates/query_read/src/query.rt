@@ -7,13 +7,13 @@ ghost use Rattle.query_read.specs.Nodes as nodes;
 ghost use Rattle.query_read.specs.ClauseParsers as spec;
 
 use crate::clauses::{condition, groups, list, order};
-use crate::expecting::{expect, is_next};
+use crate::expecting::expect;
 use crate::fault::Fault;
 use crate::grouping::Grouping;
 use crate::sources::source;
 use phrases::{Cursor, ReadError};
 use query_trees::{Expr, Query, SelectList, SortKey, Source};
-use sql_read::{Kind, Listing, Token};
+use sql_read::{Kind, Listing, Token, is_next};
 use std::alloc::Global;
 
 /// `[DISTINCT]`

@@ -6,11 +6,11 @@ ghost use Rattle.query_read.specs.Nodes as nodes;
 ghost use Rattle.query_read.specs.ClauseParsers as spec;
 
 use crate::atoms::column;
-use crate::expecting::{Class, expect, is_next, is_next_of};
+use crate::expecting::{Class, expect, is_next_of};
 use crate::fault::Fault;
 use phrases::{Cursor, ReadError};
 use query_trees::{Alias, ColumnName, Join, JoinKind, Source, TableName};
-use sql_read::{Kind, Listing, Token, name_at};
+use sql_read::{Kind, Listing, Token, is_next, name_at};
 use std::alloc::{AllocError, Global};
 
 fn alias_of(alloc: Global, text: &[u8], n: Token) -> Result<Alias, AllocError>

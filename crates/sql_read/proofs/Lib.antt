@@ -5,6 +5,7 @@ pub mod Semicolons
 pub mod Sound
 pub mod SchemaLaws
 mod Examples
+mod Fronts
 pub mod NameLaws
 pub mod FormLaws
 pub mod LiteralLaws

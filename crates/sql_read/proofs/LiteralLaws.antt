@@ -1,7 +1,6 @@
 -- The text literals at the tokens of a text begin and end with quotes.
 use Rattle.std.proofs.Common.{◌≡◌, ◌∙◌, ℕ, zero, suc, ◌+◌, ◌-◌, ◌≤◌, Bool, true, false, not, ◌&&◌, ◌==◌, List, [], ◌∷◌, length, take, drop, refl, sym, ap, subst, arith, if◌then◌else◌}
 use Rattle.std.specs.Prelude.{nat_lt, slice_index, Option, Some, None}
-use Rattle.std.specs.Char.{is_ascii_alphabetic, is_ascii_digit}
 use Rattle.std.specs.List.{All, list_all}
 use Rattle.std.specs.Option.{option_to_list}
 use Rattle.std.specs.Str.{str_eq_ignore_ascii_case}
@@ -18,6 +17,7 @@ use Rattle.sql_read.specs.Lexis as lexis
 use Rattle.sql_read.specs.Lexis.{Bytes, front, is_in, run_len, word, plain, closing, lookup, word_kind}
 use Rattle.sql_read.specs.Literals.{IsClosed, IsLiteralAt}
 use Rattle.sql_read.specs.Tokens.{Tokens, token_of, tokens_from, unless_blank, past_kind, limited, tokens}
+use Rattle.sql_read.proofs.Fronts.{is_sign, of_front}
 
 -- ---- where a literal closes
 
@@ -52,14 +52,6 @@ closes false at (b ∷ z) e h = by_test (b == 39 && not (slice_index z 0 == 39))
 
 abbrev IsClosedIfQuoted : Bytes → Piece → Type 0
 IsClosedIfQuoted z p = p.kind ≡ k.Quoted → IsClosed z p.len
-
-either : (z : Bytes) (c : Bool) (p q : Piece) → IsClosedIfQuoted z p → IsClosedIfQuoted z q → IsClosedIfQuoted z (if c then p else q)
-either z true p q a b = a
-either z false p q a b = b
-
-at_quote : (z : Bytes) (c : Bool) (p q : Piece) → (slice_index z 0 == 39) ≡ c → (slice_index z 0 ≡ 39 → IsClosedIfQuoted z p) → IsClosedIfQuoted z q → IsClosedIfQuoted z (if c then p else q)
-at_quote z true p q e a b = a (eqb-true (slice_index z 0) 39 e)
-at_quote z false p q e a b = b
 
 abbrev is_quoted : Kind → Bool
 is_quoted k.Quoted = true
@@ -99,26 +91,15 @@ quoted_closed (b ∷ z) (Some n) e q = λ _.
     let same : n - 1 ≡ suc (n - (1 + 1)) = omega (arith, low) in
     record { two = omega (arith, low); within = omega (arith, high); first = q; end = rw same c.quote }
 
-sign_other : (z : Bytes) (b second : ℕ) → IsClosedIfQuoted z (lexis.sign b second)
-unfolding lexis.sign
-sign_other z b second =
-    either z (b == 40) _ _ (no z k.OpenParen 1 refl) (either z (b == 41) _ _ (no z k.CloseParen 1 refl) (either z (b == 44) _ _ (no z k.Comma 1 refl) (either z (b == 46) _ _ (no z k.Dot 1 refl)
-    (either z (b == 59) _ _ (no z k.Semicolon 1 refl) (either z (b == 42) _ _ (no z k.Star 1 refl) (either z (b == 43) _ _ (no z k.Plus 1 refl) (either z (b == 45) _ _ (no z k.Minus 1 refl)
-    (either z (b == 47) _ _ (no z k.Slash 1 refl) (either z (b == 61) _ _ (no z k.Equal 1 refl)
-    (either z (b == 60) _ _ (either z (second == 62) _ _ (no z k.Differs 2 refl) (either z (second == 61) _ _ (no z k.LessEqual 2 refl) (no z k.Less 1 refl)))
-    (either z (b == 62) _ _ (either z (second == 61) _ _ (no z k.GreaterEqual 2 refl) (no z k.Greater 1 refl))
-    (no z k.BadToken 1 refl))))))))))))
+sign_other : (kind : Kind) → is_sign kind ≡ true → is_quoted kind ≡ false
+sign_other k.Quoted h = absurd (cc)
+sign_other kind h = refl
 
 front_closed : (z : Bytes) → IsClosedIfQuoted z (front z)
-unfolding front
 front_closed z =
-    let b = slice_index z 0 in
     let len = run_len class.Word z in
-    either z (is_in class.Blank b) _ _ (no z k.Blank (1 + run_len class.Blank (drop 1 z)) refl)
-    (either z (b == 45 && slice_index z 1 == 45) _ _ (no z k.Blank (1 + run_len class.Line (drop 1 z)) refl)
-    (either z (is_ascii_alphabetic b) _ _ (no z _ len (long_or_word (nat_lt 64 len) (take len z)))
-    (either z (is_ascii_digit b) _ _ (valued_other z (run_len class.Digit z) (lexis.integer_within (take (run_len class.Digit z) z)))
-    (at_quote z (b == 39) _ _ refl (quoted_closed z (closing false 1 (drop 1 z)) refl) (sign_other z b (slice_index z 1))))))
+    of_front (IsClosedIfQuoted z) z (λ _. no z _ len (long_or_word (nat_lt 64 len) (take len z))) (valued_other z) (quoted_closed z (closing false 1 (drop 1 z)) refl)
+    (λ kind len s. no z kind len (sign_other kind s))
 
 -- ---- the tokens of a text
 

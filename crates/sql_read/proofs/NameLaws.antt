@@ -1,7 +1,7 @@
 -- The names that stand at the tokens of a text are words.
-use Rattle.std.proofs.Common.{◌≡◌, ◌∙◌, ℕ, zero, suc, ◌+◌, ◌-◌, ◌<◌, ◌≤◌, Bool, true, false, cond, ◌&&◌, ◌==◌, [], ◌∷◌, ◌++◌, length, take, drop, flat_map, encode_utf8, refl, sym, ap, subst, arith, if◌then◌else◌}
+use Rattle.std.proofs.Common.{◌≡◌, ◌∙◌, ℕ, zero, suc, ◌+◌, ◌-◌, ◌<◌, ◌≤◌, Bool, true, false, cond, ◌&&◌, [], ◌∷◌, ◌++◌, length, take, drop, flat_map, encode_utf8, refl, sym, ap, subst, arith, if◌then◌else◌}
 use Rattle.std.specs.Prelude.{nat_lt, nat_le, slice_index, Option, Some, None}
-use Rattle.std.specs.Char.{is_ascii_alphabetic, is_ascii_digit, to_ascii_lowercase}
+use Rattle.std.specs.Char.{is_ascii_alphabetic, to_ascii_lowercase}
 use Rattle.std.specs.List.{list_all}
 use Rattle.std.specs.Option.{option_to_list}
 use Rattle.std.proofs.lemmas.Bool.{le-leb, ltb-false, true≢false}
@@ -17,19 +17,12 @@ use Rattle.sql_read.specs.Lexis as lexis
 use Rattle.sql_read.specs.Lexis.{Bytes, front, is_in, run_len, word, plain}
 use Rattle.sql_read.specs.Schema.{name_at}
 use Rattle.sql_read.specs.Tokens.{Tokens, token_of, tokens_from, unless_blank, past_kind, limited, tokens}
+use Rattle.sql_read.proofs.Fronts.{is_sign, of_front}
 
 -- ---- the front of a text: where it is a name, it is a word
 
 abbrev IsWordIfNamed : Bytes → Piece → Type 0
 IsWordIfNamed z p = p.kind ≡ k.Name → (p ≡ word z) × (is_ascii_alphabetic (slice_index z 0) ≡ true)
-
-either : (z : Bytes) (c : Bool) (p q : Piece) → IsWordIfNamed z p → IsWordIfNamed z q → IsWordIfNamed z (if c then p else q)
-either z true p q a b = a
-either z false p q a b = b
-
-at_letter : (z : Bytes) (c : Bool) (q : Piece) → is_ascii_alphabetic (slice_index z 0) ≡ c → IsWordIfNamed z q → IsWordIfNamed z (if c then word z else q)
-at_letter z true q e other = λ _. (refl, e)
-at_letter z false q e other = other
 
 abbrev is_name_kind : Kind → Bool
 is_name_kind k.Name = true
@@ -46,25 +39,14 @@ closed_other : (z : Bytes) (len : ℕ) (end : Option ℕ) → IsWordIfNamed z (l
 closed_other z len None = λ e. absurd (cc)
 closed_other z len (Some n) = λ e. absurd (cc)
 
-sign_other : (z : Bytes) (b second : ℕ) → IsWordIfNamed z (lexis.sign b second)
-unfolding lexis.sign
-sign_other z b second =
-    either z (b == 40) _ _ (no z k.OpenParen 1 refl) (either z (b == 41) _ _ (no z k.CloseParen 1 refl) (either z (b == 44) _ _ (no z k.Comma 1 refl) (either z (b == 46) _ _ (no z k.Dot 1 refl)
-    (either z (b == 59) _ _ (no z k.Semicolon 1 refl) (either z (b == 42) _ _ (no z k.Star 1 refl) (either z (b == 43) _ _ (no z k.Plus 1 refl) (either z (b == 45) _ _ (no z k.Minus 1 refl)
-    (either z (b == 47) _ _ (no z k.Slash 1 refl) (either z (b == 61) _ _ (no z k.Equal 1 refl)
-    (either z (b == 60) _ _ (either z (second == 62) _ _ (no z k.Differs 2 refl) (either z (second == 61) _ _ (no z k.LessEqual 2 refl) (no z k.Less 1 refl)))
-    (either z (b == 62) _ _ (either z (second == 61) _ _ (no z k.GreaterEqual 2 refl) (no z k.Greater 1 refl))
-    (no z k.BadToken 1 refl))))))))))))
+sign_other : (kind : Kind) → is_sign kind ≡ true → is_name_kind kind ≡ false
+sign_other k.Name h = absurd (cc)
+sign_other kind h = refl
 
 front_word : (z : Bytes) → IsWordIfNamed z (front z)
-unfolding front
 front_word z =
-    let b = slice_index z 0 in
-    either z (is_in class.Blank b) _ _ (no z k.Blank (1 + run_len class.Blank (drop 1 z)) refl)
-    (either z (b == 45 && slice_index z 1 == 45) _ _ (no z k.Blank (1 + run_len class.Line (drop 1 z)) refl)
-    (at_letter z (is_ascii_alphabetic b) _ refl
-    (either z (is_ascii_digit b) _ _ (valued_other z (run_len class.Digit z) (lexis.integer_within (take (run_len class.Digit z) z)))
-    (either z (b == 39) _ _ (closed_other z (length z) (lexis.closing false 1 (drop 1 z))) (sign_other z b (slice_index z 1))))))
+    of_front (IsWordIfNamed z) z (λ letter _. (refl, letter)) (valued_other z) (λ _. closed_other z (length z) (lexis.closing false 1 (drop 1 z)))
+    (λ kind len s. no z kind len (sign_other kind s))
 
 -- ---- a word's bytes, in lower case
 

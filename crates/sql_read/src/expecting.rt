@@ -3,8 +3,8 @@
 ghost use Rattle.std.specs.Prelude.{◌≡◌, length, Some, None};
 ghost use Rattle.phrases.specs.Parsers.{Reads, next, head};
 ghost use Rattle.phrases.specs.Parsers as parsers;
-ghost use Rattle.sql_read.specs.SchemaParsers as spec;
 ghost use Rattle.sql_read.specs.Schema as grammar;
+ghost use Rattle.sql_read.specs.SchemaParsers as spec;
 
 use crate::fault::Fault;
 use crate::kind::{Kind, same_kind};
@@ -21,16 +21,27 @@ pub fn is_next(tokens: &Cursor<'_, Token>, kind: Kind) -> bool
     }
 }
 
-/// The next token, which is of the kind.
+/// The next token, which is of the kind. The fault is that of any other token, and of the end.
 #[tactic(auto, unfolding(phrases::specs::Parsers::expect))]
-pub fn expect(tokens: &mut Cursor<'_, Token>, kind: Kind) -> Result<Token, ReadError<Fault>>
-    ensures { Reads (spec.expect kind tokens.old) result tokens.new }
+pub fn expect_kind<F: Copy>(
+    tokens: &mut Cursor<'_, Token>,
+    kind: Kind,
+    fault: F,
+) -> Result<Token, ReadError<F>>
+    ensures { Reads (parsers.expect fault (grammar.is kind) tokens.old) result tokens.new }
 {
     match tokens.first() {
         Some(t) if same_kind(t.kind, kind) => {
             let _taken = tokens.take();
             Ok(t)
         }
-        _ => Err(ReadError::Refused(Fault::Unexpected, tokens.left())),
+        _ => Err(ReadError::Refused(fault, tokens.left())),
     }
+}
+
+/// The next token of a schema, which is of the kind.
+pub fn expect(tokens: &mut Cursor<'_, Token>, kind: Kind) -> Result<Token, ReadError<Fault>>
+    ensures { Reads (spec.expect kind tokens.old) result tokens.new }
+{
+    expect_kind(tokens, kind, Fault::Unexpected)
 }

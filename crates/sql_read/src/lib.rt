@@ -15,6 +15,7 @@ mod token_list;
 mod words;
 
 pub use definition::{ColumnDef, ColumnKind, KeyDef, TableDef};
+pub use expecting::{expect_kind, is_next};
 pub use kind::{Kind, same_kind};
 pub use lexis::integer_within;
 pub use listing::Listing;
