@@ -1,19 +1,24 @@
 -- What stands between the quotes of a literal is UTF-8 in a text of UTF-8, and its value then is no other bytes.
 use Rattle.std.proofs.Common.{◌≡◌, ◌∙◌, ℕ, suc, ◌+◌, ◌-◌, ◌≤◌, Bool, true, false, ◌&&◌, ◌==◌, List, [], ◌∷◌, ◌++◌, length, take, drop, get_or, cond, ◌/◌, zero, refl, sym, ap, subst, arith, if◌then◌else◌}
 use Rattle.std.specs.Prelude.{nat_lt}
+use Rattle.std.specs.List.{All}
 use Rattle.std.specs.Str.{IsUtf8, all_scalars}
 use Rattle.std.proofs.Math.Utf8.{encode, encodes, scalar, next}
 use Rattle.std.proofs.lemmas.Bool.{eqb-true, and_parts, and_from}
 use Rattle.std.proofs.lemmas.Bool.Decides.{nat_tests}
 use Rattle.std.proofs.lemmas.List.{drop-drop, take-take, length-drop, get_or-drop}
-use Rattle.std.proofs.lemmas.List.Elements.{All-weaker}
+use Rattle.std.proofs.lemmas.List.Elements.{All-head, All-tail, All-cons, All-weaker}
 use Rattle.std.proofs.lemmas.Str.{utf8_lossy-IsUtf8, IsUtf8-between, IsCharBoundary-before_ascii, IsCharBoundary-after_ascii}
+use Rattle.phrases.specs.Parsers as parsers
+use Rattle.sql_read.specs.declared.kind.Kind.{Kind}
 use Rattle.sql_read.specs.declared.kind.Kind.TheVariants as k
 use Rattle.sql_read.specs.declared.token_list.Token.{Token}
 use Rattle.sql_read.specs.Lexis.{Bytes}
 use Rattle.sql_read.specs.Literals.{IsClosed, IsLiteralAt}
-use Rattle.sql_read.specs.Tokens.{tokens}
+use Rattle.sql_read.specs.Schema.{is}
+use Rattle.sql_read.specs.Tokens.{Tokens, tokens}
 use Rattle.sql_read.proofs.LiteralLaws.{literals_are_closed}
+use Rattle.query_read.specs.Marked.{ends_date, step_kind, as_step, marked_after}
 use Rattle.query_read.specs.Literals.{inner, single_quoted, content, LiteralLaw}
 
 -- ---- two quotes in a row are one, byte by byte and character by character
@@ -116,5 +121,25 @@ inner_utf8 text t u c =
 literal_here : (text : Bytes) → IsUtf8 text → (t : Token) → IsLiteralAt text t → t.kind ≡ k.Quoted → content text t ≡ single_quoted (inner text t)
 literal_here text u t h is = utf8_lossy-IsUtf8 (single_quoted (inner text t)) (IsUtf8-quoted (inner text t) (inner_utf8 text t u (h is)))
 
+-- ---- the marking of signs leaves literals as they are
+
+step_other : (kind : Kind) → step_kind kind ≡ k.Quoted → kind ≡ k.Quoted
+step_other k.Plus e = absurd (cc)
+step_other k.Minus e = absurd (cc)
+step_other kind e = e
+
+abbrev HasValue : Bytes → Token → Type 0
+HasValue text t = t.kind ≡ k.Quoted → content text t ≡ single_quoted (inner text t)
+
+step_here : (text : Bytes) (belongs : Bool) (t : Token) → HasValue text t → HasValue text (as_step belongs t)
+step_here text true t h = λ e. h (step_other t.kind e)
+step_here text false t h = h
+
+marked_here : (text : Bytes) (before latest : Kind) (ts : Tokens) → All (HasValue text) ts → All (HasValue text) (marked_after before latest ts)
+marked_here text before latest [] h = h
+marked_here text before latest (t ∷ ts) h =
+    All-cons (HasValue text) _ _ (step_here text (ends_date before latest && parsers.next (is k.Interval) ts) t (All-head (HasValue text) t ts h)) (marked_here text latest t.kind ts (All-tail (HasValue text) t ts h))
+
 pub literal_law : LiteralLaw
-literal_law text n u = All-weaker (IsLiteralAt text) _ (literal_here text u) (tokens n text) (literals_are_closed text n)
+literal_law text n u =
+    marked_here text k.Blank k.Blank (tokens n text) (All-weaker (IsLiteralAt text) _ (literal_here text u) (tokens n text) (literals_are_closed text n))

@@ -1,7 +1,7 @@
 pub mod Asked
-pub mod Literals
 pub mod Days
 pub mod Marked
+pub mod Literals
 pub mod Nodes
 pub mod Classes
 pub mod Expressions

@@ -8,6 +8,7 @@ use Rattle.sql_read.specs.declared.token_list.Token.{Token}
 use Rattle.sql_read.specs.Lexis.{Bytes}
 use Rattle.sql_read.specs.Schema.{extent}
 use Rattle.sql_read.specs.Tokens.{tokens}
+use Rattle.query_read.specs.Marked.{marked}
 
 -- what stands between the quotes of a literal
 abbrev pub inner : Bytes → Token → Bytes
@@ -24,6 +25,6 @@ single_quoted (b ∷ c ∷ z) = if b == 39 && c == 39 then 39 ∷ single_quoted 
 abbrev pub content : Bytes → Token → Bytes
 content text t = utf8_lossy (single_quoted (inner text t))
 
--- the text literals of a text of UTF-8 have their bytes as values, with two quotes in a row as one
+-- the text literals of a text of UTF-8, among the tokens that a query is read from, have their bytes as values, with two quotes in a row as one
 abbrev pub LiteralLaw : Type 0
-LiteralLaw = (text : Bytes) (n : ℕ) → IsUtf8 text → All (λ t. t.kind ≡ k.Quoted → content text t ≡ single_quoted (inner text t)) (tokens n text)
+LiteralLaw = (text : Bytes) (n : ℕ) → IsUtf8 text → All (λ t. t.kind ≡ k.Quoted → content text t ≡ single_quoted (inner text t)) (marked (tokens n text))
