@@ -23,7 +23,7 @@ use Rattle.typed_values.specs.Intervals.{of_kind, truth, point, signed, signed_i
 use Rattle.typed_values.specs.Narrow as n
 use Rattle.typed_values.specs.Narrow.{Bounds}
 use Rattle.typed_values.specs.Bounds as rule
-use Rattle.typed_values.specs.Bounds.{Operand, part, form_interval, interval_of, form_below, parts_below, parts, lies_within, is_narrow, cannot_overflow, is_arithmetic}
+use Rattle.typed_values.specs.Bounds.{Operand, with_itself, form_interval, interval_of, form_below, proper_subexpressions, subexpressions, lies_within, is_narrow, cannot_overflow, is_arithmetic}
 use Rattle.typed_values.proofs.Kept.{exact_kept, literal_kept, signed_kept, combined_kept, quotient_kept}
 
 -- the interval, where the parts below are narrow and it is narrow itself
@@ -31,7 +31,7 @@ abbrev found : Bool → Option Interval → Option Interval
 found below p = if below && lies_within p then p else None
 
 abbrev below_narrow : TypedExpr → Bool
-below_narrow x = list_all is_narrow (parts_below x)
+below_narrow x = list_all is_narrow (proper_subexpressions x)
 
 abbrev IsFound : TypedExpr → Type 0
 IsFound x = n.bounds x ≡ found (below_narrow x) (interval_of x)
@@ -153,19 +153,19 @@ one_more true = refl
 one_more false = refl
 
 -- all parts of an operand are narrow
-operand_narrow : (x : TypedExpr) → list_all is_narrow (parts x) ≡ (below_narrow x && is_narrow x)
-operand_narrow x = list_all-append is_narrow (parts_below x) (x ∷ []) ∙ ap (λ b. below_narrow x && b) (one_more (is_narrow x))
+operand_narrow : (x : TypedExpr) → list_all is_narrow (subexpressions x) ≡ (below_narrow x && is_narrow x)
+operand_narrow x = list_all-append is_narrow (proper_subexpressions x) (x ∷ []) ∙ ap (λ b. below_narrow x && b) (one_more (is_narrow x))
 
-two_narrow : (x y : TypedExpr) → list_all is_narrow (parts x ++ parts y) ≡ ((below_narrow x && is_narrow x) && (below_narrow y && is_narrow y))
-two_narrow x y = list_all-append is_narrow (parts x) (parts y) ∙ (λ i. operand_narrow x i && operand_narrow y i)
+two_narrow : (x y : TypedExpr) → list_all is_narrow (subexpressions x ++ subexpressions y) ≡ ((below_narrow x && is_narrow x) && (below_narrow y && is_narrow y))
+two_narrow x y = list_all-append is_narrow (subexpressions x) (subexpressions y) ∙ (λ i. operand_narrow x i && operand_narrow y i)
 
 number_interval : (k : ℕ) → interval_of (e.Number k) ≡ Some (point (pos k))
 unfolding interval_of
 number_interval k = ap interval_of (sym (rolls-Number k)) ∙ fold-roll-TypedExpr (Option Interval) form_interval (TypedExpr-F.Number k)
 
-divide_narrow : (x : TypedExpr) (k : ℕ) → list_all is_narrow (parts x ++ e.Number k ∷ []) ≡ ((below_narrow x && is_narrow x) && lies_within (Some (point (pos k))))
+divide_narrow : (x : TypedExpr) (k : ℕ) → list_all is_narrow (subexpressions x ++ e.Number k ∷ []) ≡ ((below_narrow x && is_narrow x) && lies_within (Some (point (pos k))))
 divide_narrow x k =
-    list_all-append is_narrow (parts x) (e.Number k ∷ [])
+    list_all-append is_narrow (subexpressions x) (e.Number k ∷ [])
     ∙ ((λ i. operand_narrow x i && one_more (is_narrow (e.Number k)) i) ∙ ap (λ p. (below_narrow x && is_narrow x) && lies_within p) (number_interval k))
 
 -- ---- layers
@@ -179,10 +179,10 @@ unfolding interval_of
 layer_interval d = fold-roll-TypedExpr (Option Interval) form_interval d
 
 abbrev pub operand : TypedExpr → Operand
-operand x = (x, parts_below x)
+operand x = (x, proper_subexpressions x)
 
-pub layer_below : (d : TypedExpr-F TypedExpr) → parts_below (roll-TypedExpr d) ≡ form_below (map-TypedExpr TypedExpr Operand operand d)
-unfolding parts_below
+pub layer_below : (d : TypedExpr-F TypedExpr) → proper_subexpressions (roll-TypedExpr d) ≡ form_below (map-TypedExpr TypedExpr Operand operand d)
+unfolding proper_subexpressions
 layer_below d = para-roll-TypedExpr (List TypedExpr) form_below d
 
 by_parts : (d : TypedExpr-F TypedExpr) → n.form_bounds (map-TypedExpr TypedExpr Bounds n.bounds d) ≡ found (list_all is_narrow (form_below (map-TypedExpr TypedExpr Operand operand d))) (form_interval (map-TypedExpr TypedExpr (Option Interval) interval_of d)) → IsFound (roll-TypedExpr d)
@@ -196,15 +196,15 @@ Elements = List ((x : TypedExpr) × IsFound x)
 abbrev exprs : Elements → List TypedExpr
 exprs ys = map (λ y. y.0) ys
 
-element_some : (x : TypedExpr) → IsFound x → is_some (n.bounds x) ≡ list_all is_narrow (parts x)
+element_some : (x : TypedExpr) → IsFound x → is_some (n.bounds x) ≡ list_all is_narrow (subexpressions x)
 element_some x h = ap is_some h ∙ (some_found (below_narrow x) (interval_of x) ∙ sym (operand_narrow x))
 
-all_some : (ys : Elements) → list_all (λ (b : Bounds). is_some b) (map n.bounds (exprs ys)) ≡ list_all is_narrow (flat_map part (map operand (exprs ys)))
+all_some : (ys : Elements) → list_all (λ (b : Bounds). is_some b) (map n.bounds (exprs ys)) ≡ list_all is_narrow (flat_map with_itself (map operand (exprs ys)))
 all_some [] = refl
-all_some (y ∷ ys) = (λ i. element_some y.0 y.1 i && all_some ys i) ∙ sym (list_all-append is_narrow (parts y.0) (flat_map part (map operand (exprs ys))))
+all_some (y ∷ ys) = (λ i. element_some y.0 y.1 i && all_some ys i) ∙ sym (list_all-append is_narrow (subexpressions y.0) (flat_map with_itself (map operand (exprs ys))))
 
-in_narrow : (x : TypedExpr) (ys : Elements) → list_all is_narrow (parts x ++ flat_map part (map operand (exprs ys))) ≡ ((below_narrow x && is_narrow x) && list_all (λ (b : Bounds). is_some b) (map n.bounds (exprs ys)))
-in_narrow x ys = list_all-append is_narrow (parts x) (flat_map part (map operand (exprs ys))) ∙ (λ i. operand_narrow x i && sym (all_some ys) i)
+in_narrow : (x : TypedExpr) (ys : Elements) → list_all is_narrow (subexpressions x ++ flat_map with_itself (map operand (exprs ys))) ≡ ((below_narrow x && is_narrow x) && list_all (λ (b : Bounds). is_some b) (map n.bounds (exprs ys)))
+in_narrow x ys = list_all-append is_narrow (subexpressions x) (flat_map with_itself (map operand (exprs ys))) ∙ (λ i. operand_narrow x i && sym (all_some ys) i)
 
 -- ---- the induction
 
@@ -240,7 +240,7 @@ by_layer (TypedExpr-F.Between p x y z) =
     by_parts (TypedExpr-F.Between p x.0 y.0 z.0)
     ((λ i. n.both_bounded (x.1 i) (n.both_bounded (y.1 i) (z.1 i)))
     ∙ (between_found (below_narrow x.0) (below_narrow y.0) (below_narrow z.0) (interval_of x.0) (interval_of y.0) (interval_of z.0)
-    ∙ ap (λ b. found b (Some truth)) (sym (list_all-append is_narrow (parts x.0) (parts y.0 ++ parts z.0) ∙ (λ i. operand_narrow x.0 i && two_narrow y.0 z.0 i)))))
+    ∙ ap (λ b. found b (Some truth)) (sym (list_all-append is_narrow (subexpressions x.0) (subexpressions y.0 ++ subexpressions z.0) ∙ (λ i. operand_narrow x.0 i && two_narrow y.0 z.0 i)))))
 by_layer (TypedExpr-F.In p x ys) =
     let all = list_all (λ (b : Bounds). is_some b) (map n.bounds (exprs ys)) in
     by_parts (TypedExpr-F.In p x.0 (exprs ys))

@@ -48,29 +48,29 @@ form_interval (TypedExpr-F.In p a bs) = Some truth
 unfoldable pub interval_of : TypedExpr → Option Interval
 interval_of = fold-TypedExpr (Option Interval) form_interval
 
--- ---- the parts of an expression: its operands' parts, the number that it divides by, and it itself
+-- ---- the parts of an expression: those of its operands, the number that it divides by, and it itself
 
 -- an operand, with the parts below it
 abbrev pub Operand : Type 0
 Operand = TypedExpr × List TypedExpr
 
-abbrev pub part : Operand → List TypedExpr
-part x = x.1 ++ x.0 ∷ []
+abbrev pub with_itself : Operand → List TypedExpr
+with_itself x = x.1 ++ x.0 ∷ []
 
 abbrev pub form_below : TypedExpr-F Operand → List TypedExpr
-form_below (TypedExpr-F.Signed s x) = part x
-form_below (TypedExpr-F.Not x) = part x
-form_below (TypedExpr-F.Binary o x y) = part x ++ part y
-form_below (TypedExpr-F.Divide x s n) = part x ++ e.Number n ∷ []
-form_below (TypedExpr-F.Between p x y z) = part x ++ (part y ++ part z)
-form_below (TypedExpr-F.In p x ys) = part x ++ flat_map part ys
+form_below (TypedExpr-F.Signed s x) = with_itself x
+form_below (TypedExpr-F.Not x) = with_itself x
+form_below (TypedExpr-F.Binary o x y) = with_itself x ++ with_itself y
+form_below (TypedExpr-F.Divide x s n) = with_itself x ++ e.Number n ∷ []
+form_below (TypedExpr-F.Between p x y z) = with_itself x ++ (with_itself y ++ with_itself z)
+form_below (TypedExpr-F.In p x ys) = with_itself x ++ flat_map with_itself ys
 form_below form = []
 
-unfoldable pub parts_below : TypedExpr → List TypedExpr
-parts_below = para-TypedExpr (List TypedExpr) form_below
+unfoldable pub proper_subexpressions : TypedExpr → List TypedExpr
+proper_subexpressions = para-TypedExpr (List TypedExpr) form_below
 
-abbrev pub parts : TypedExpr → List TypedExpr
-parts x = part (x, parts_below x)
+abbrev pub subexpressions : TypedExpr → List TypedExpr
+subexpressions x = with_itself (x, proper_subexpressions x)
 
 -- ---- the rule
 
@@ -82,4 +82,4 @@ abbrev pub is_narrow : TypedExpr → Bool
 is_narrow x = lies_within (interval_of x)
 
 abbrev pub cannot_overflow : TypedExpr → Bool
-cannot_overflow x = list_all is_narrow (parts x)
+cannot_overflow x = list_all is_narrow (subexpressions x)
