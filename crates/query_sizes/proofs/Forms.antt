@@ -113,9 +113,9 @@ within_not at c T h = record {
       (grows_then (grows_with 1 (1 + c) c (omega arith) (omega arith) (h.grows s Alone)) (λ a. grows_lift (is_row s.level) (negated_made at a)));
 }
 
-joined_made : (o : BinaryOp) (place : ℕ) (a b : Typed) → Holds (1 + made a + made b) made (t.joined o place a b)
-unfolding t.joined
-joined_made o place a b = holds_if _ TypesDiffer place (holds_value (1 + made a + made b) made (typed_as (makes (family_of o)) (e.Binary o a.value b.value)) (omega (arith, nodes-Binary o a.value b.value)))
+binary_made : (o : BinaryOp) (place : ℕ) (a b : Typed) → Holds (1 + made a + made b) made (t.binary o place a b)
+unfolding t.binary
+binary_made o place a b = holds_if _ TypesDiffer place (holds_value (1 + made a + made b) made (typed_as (makes (family_of o)) (e.Binary o a.value b.value)) (omega (arith, nodes-Binary o a.value b.value)))
 
 pub within_binary : (o : BinaryOp) (place at c d : ℕ) (T U : Typer) → Within c T → Within d U → Within (1 + c + d) (form_typer (Form-F.Binary o place T U) at)
 within_binary o place at c d T U h g = record {
@@ -124,7 +124,7 @@ within_binary o place at c d T U h g = record {
       grows_within (1 + c + d) (1 + c + d) (omega arith) (omega arith)
       (grows_then (grows_with (1 + d) (1 + c + d) c (omega arith) (omega arith) (h.grows s (role_in (family_of o)))) (λ a.
       grows_then (grows_with (1 + made a) (1 + d + made a) d (omega arith) (omega arith) (g.grows s (role_in (family_of o)))) (λ b.
-      grows_lift (is_row s.level) (joined_made o place a b))));
+      grows_lift (is_row s.level) (binary_made o place a b))));
 }
 
 divided_made : (place : ℕ) (a : Typed) (d : Divisor) → Holds (2 + made a) made (t.divided place a d)

@@ -22,7 +22,7 @@ use Rattle.query_types.specs.Grouping.{every_column}
 use Rattle.query_types.specs.Conjuncts.{parts}
 use Rattle.query_types.specs.Items as i
 use Rattle.query_types.specs.Items.{is_full, with_item, nothing_shown, star_item, star_items, with_value, item, items, shown_of}
-use Rattle.query_types.specs.Sources.{source_of, with_table, opened, link, joined, joined_all, first, tables_of}
+use Rattle.query_types.specs.Sources.{source_of, with_table, opened, link, with_join, with_joins, first, tables_of}
 use Rattle.query_types.specs.Typing.{filter, having}
 use Rattle.query_sizes.specs.Sizes.{nodes, optional_nodes, source_nodes}
 use Rattle.query_sizes.proofs.Totals.{total, total_more}
@@ -136,19 +136,19 @@ grows_having s (Some x) =
 abbrev pub tables_nodes : Tables → ℕ
 tables_nodes f = total source_nodes f.sources
 
-joined_made : (defs : List TableDef) (f : Tables) (j : Join) → tables_nodes f ≤ 0 → Holds 0 tables_nodes (joined defs f j)
-unfolding joined
-joined_made defs f j h =
+join_made : (defs : List TableDef) (f : Tables) (j : Join) → tables_nodes f ≤ 0 → Holds 0 tables_nodes (with_join defs f j)
+unfolding with_join
+join_made defs f j h =
     holds_then (opened defs f.called j.table) (λ t.
     holds_then (link defs (f.called ++ t ∷ []) (length f.called) t.table j.kind) (λ l.
     holds_value 0 tables_nodes (with_table defs f t l) (omega (arith, h, total_more source_nodes f.sources (source_of defs t.table l)))))
 
-all_made : (defs : List TableDef) (js : List Join) (f : Tables) → tables_nodes f ≤ 0 → Holds 0 tables_nodes (joined_all defs f js)
+all_made : (defs : List TableDef) (js : List Join) (f : Tables) → tables_nodes f ≤ 0 → Holds 0 tables_nodes (with_joins defs f js)
 all_made defs [] f h = holds_value 0 tables_nodes f h
 all_made defs (j ∷ js) f h = record {
   most = λ g is.
-      let one = then_ok (joined defs f j) (λ g. joined_all defs g js) g is in
-      (all_made defs js one.0 ((joined_made defs f j h).most one.0 one.1)).most g one.2;
+      let one = then_ok (with_join defs f j) (λ g. with_joins defs g js) g is in
+      (all_made defs js one.0 ((join_made defs f j h).most one.0 one.1)).most g one.2;
 }
 
 first_made : (defs : List TableDef) (s : Source) → Holds 0 tables_nodes (first defs s.first)
@@ -159,7 +159,7 @@ pub tables_made : (defs : List TableDef) (s : Source) → Holds 0 tables_nodes (
 unfolding tables_of
 tables_made defs s = record {
   most = λ g is.
-      let one = then_ok (first defs s.first) (λ f. joined_all defs f s.joins) g is in
+      let one = then_ok (first defs s.first) (λ f. with_joins defs f s.joins) g is in
       let alone = (first_made defs s).most one.0 one.1 in
       (all_made defs s.joins one.0 alone).most g one.2;
 }

@@ -9,7 +9,7 @@ use Rattle.query_trees.specs.declared.expr.BinaryOp.{BinaryOp}
 use Rattle.query_trees.specs.declared.expr.ColumnName.{ColumnName}
 use Rattle.query_trees.specs.declared.expr.Divisor.{Divisor}
 use Rattle.query_trees.specs.Nodes.{node}
-use Rattle.query_types.specs.Expressions.{form_typer, typer, named, signed, negated, joined, divided, counted, folded, condition, form_has_aggregate, has_aggregate, form_column, column_alone}
+use Rattle.query_types.specs.Expressions.{form_typer, typer, named, signed, negated, binary, divided, counted, folded, condition, form_has_aggregate, has_aggregate, form_column, column_alone}
 use Rattle.query_types.specs.Grouping.{groups_of, is_grouped}
 use Rattle.query_types.specs.Items.{with_value, item}
 use Rattle.typed_trees.specs.declared.typed.Aggregate.{Aggregate}
@@ -91,9 +91,9 @@ unfolding column_alone stands_form
 divide_stands at place x by = stands_opens (node at (f.Divide place x by)) ∙ (ap stands_form (sym (rolls-Divide place x by)) ∙ fold-roll-Form (Option ColumnName) (Option ColumnName) form_column (λ x. x.form) (Form-F.Divide place x by))
 
 pub first_refusals : FirstRefusals
-unfolding named signed negated joined divided counted folded condition groups_of is_grouped with_value item column_in bare qualified resolved standing column by_column by_bare opened linked paired linked_on sources.joined first tables_of answer typed_over typed_query
+unfolding named signed negated binary divided counted folded condition groups_of is_grouped with_value item column_in bare qualified resolved standing column by_column by_bare opened linked paired linked_on sources.with_join first tables_of answer typed_over typed_query
 first_refusals = simp (number_typed, text_typed, column_typed, aggregate_typed, binary_typed, divide_typed, number_has, text_has, column_has, binary_has, divide_has, text_stands, column_stands, binary_stands, divide_stands) refl
 
 pub key_join : KeyJoin
-unfolding named folded groups_of is_grouped with_value item column_in bare qualified resolved standing column by_column by_bare opened linked paired linked_on sources.joined first tables_of answer typed_over typed_query
+unfolding named folded groups_of is_grouped with_value item column_in bare qualified resolved standing column by_column by_bare opened linked paired linked_on sources.with_join first tables_of answer typed_over typed_query
 key_join = simp (column_typed, aggregate_typed, column_stands) refl

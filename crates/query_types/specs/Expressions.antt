@@ -52,8 +52,8 @@ signed s at a = refuse_if (not (is_number a.kind)) TypesDiffer at (Ok (typed_as 
 unfoldable pub negated : ℕ → Typed → Outcome Typed
 negated at a = refuse_if (not (is_truth a.kind)) TypesDiffer at (Ok (typed_as Truth (e.Not a.value)))
 
-unfoldable pub joined : BinaryOp → ℕ → Typed → Typed → Outcome Typed
-joined o at a b = refuse_if (not (takes (family_of o) a.kind b.kind)) TypesDiffer at (Ok (typed_as (makes (family_of o)) (e.Binary o a.value b.value)))
+unfoldable pub binary : BinaryOp → ℕ → Typed → Typed → Outcome Typed
+binary o at a b = refuse_if (not (takes (family_of o) a.kind b.kind)) TypesDiffer at (Ok (typed_as (makes (family_of o)) (e.Binary o a.value b.value)))
 
 abbrev pub sign_or_plus : Option Sign → Sign
 sign_or_plus (Some s) = s
@@ -126,7 +126,7 @@ form_typer (Form-F.Aggregate of x) at s role = x (inside s) Alone >>= folded s.l
 form_typer (Form-F.Enclosed x) at s role = x s role
 form_typer (Form-F.Signed sign x) at s role = x s Alone >>= λ a. lift (signed sign at a)
 form_typer (Form-F.Not x) at s role = x s Alone >>= λ a. lift (negated at a)
-form_typer (Form-F.Binary o place x y) at s role = x s (role_in (family_of o)) >>= λ a. y s (role_in (family_of o)) >>= λ b. lift (joined o place a b)
+form_typer (Form-F.Binary o place x y) at s role = x s (role_in (family_of o)) >>= λ a. y s (role_in (family_of o)) >>= λ b. lift (binary o place a b)
 form_typer (Form-F.Divide place x d) at s role = x s Alone >>= λ a. lift (divided place a d)
 form_typer (Form-F.Between p place x y z) at s role = x s Side >>= λ a. y s Side >>= λ low. z s Side >>= λ high. lift (between p place a low high)
 form_typer (Form-F.In p place x ys) at s role = x s Side >>= λ a. each s [] ys >>= λ ts. lift (among p place a ts)

@@ -103,20 +103,20 @@ link defs tables s table (join.On a at b) = linked_on defs tables s table a at b
 abbrev pub with_table : List TableDef → Tables → Called → Link → Tables
 with_table defs f t l = record { called = f.called ++ t ∷ []; sources = f.sources ++ source_of defs t.table l ∷ [] }
 
-unfoldable pub joined : List TableDef → Tables → Join → Outcome Tables
-joined defs f j =
+unfoldable pub with_join : List TableDef → Tables → Join → Outcome Tables
+with_join defs f j =
     and_then (opened defs f.called j.table) (λ t.
     and_then (link defs (f.called ++ t ∷ []) (length f.called) t.table j.kind) (λ l.
     Ok (with_table defs f t l)))
 
 -- those joins after these tables
-abbrev pub joined_all : List TableDef → Tables → List Join → Outcome Tables
-joined_all defs f [] = Ok f
-joined_all defs f (j ∷ js) = and_then (joined defs f j) (λ g. joined_all defs g js)
+abbrev pub with_joins : List TableDef → Tables → List Join → Outcome Tables
+with_joins defs f [] = Ok f
+with_joins defs f (j ∷ js) = and_then (with_join defs f j) (λ g. with_joins defs g js)
 
 unfoldable pub first : List TableDef → TableName → Outcome Tables
 first defs t = and_then (opened defs [] t) (λ t. Ok (record { called = t ∷ []; sources = source_of defs t.table None ∷ [] }))
 
 -- the tables of FROM
 unfoldable pub tables_of : List TableDef → Source → Outcome Tables
-tables_of defs s = and_then (first defs s.first) (λ f. joined_all defs f s.joins)
+tables_of defs s = and_then (first defs s.first) (λ f. with_joins defs f s.joins)

@@ -8,7 +8,7 @@ ghost use Rattle.query_types.specs.Names.{IsNarrow, seen, inside};
 ghost use Rattle.query_types.specs.Outcomes.{Collects};
 
 use crate::forms::{
-    among, between, counted, divided, folded, joined, literal, named, negated, signed,
+    among, between, binary, counted, divided, folded, literal, named, negated, signed,
 };
 use crate::kinds::{Kind, Role, family_of, is_truth, role_in};
 use crate::outcome::refusal;
@@ -92,7 +92,7 @@ pub fn expr(
             let side = role_in(family_of(*op));
             let a = expr(alloc, scope, aggregates, side, x)?;
             let b = expr(alloc, scope, aggregates, side, y)?;
-            joined(alloc, *op, *at, a, b)
+            binary(alloc, *op, *at, a, b)
         }
         Form::Divide(at, x, by) => {
             let a = expr(alloc, scope, aggregates, Role::Alone, x)?;

@@ -76,15 +76,15 @@ pub fn negated(alloc: Global, at: u32, a: Typed) -> Result<Typed, TypeRefusal>
     })
 }
 
-#[tactic(auto, unfolding(crate::specs::Expressions::joined))]
-pub fn joined(
+#[tactic(auto, unfolding(crate::specs::Expressions::binary))]
+pub fn binary(
     alloc: Global,
     op: BinaryOp,
     at: u32,
     a: Typed,
     b: Typed,
 ) -> Result<Typed, TypeRefusal>
-    ensures { Gives (spec.joined op at a b) result }
+    ensures { Gives (spec.binary op at a b) result }
 {
     let family = family_of(op);
     if !takes(family, a.kind, b.kind) {

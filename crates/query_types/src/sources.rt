@@ -243,10 +243,15 @@ fn link(
     }
 }
 
-#[tactic(auto, unfolding(crate::specs::Sources::joined))]
-fn joined(alloc: Global, defs: &[TableDef], before: Tables, j: &Join) -> Result<Tables, TypeRefusal>
+#[tactic(auto, unfolding(crate::specs::Sources::with_join))]
+fn with_join(
+    alloc: Global,
+    defs: &[TableDef],
+    before: Tables,
+    j: &Join,
+) -> Result<Tables, TypeRefusal>
     requires { IsNarrow defs.now }
-    ensures given { Gives (spec.joined defs.now before j.now) result }
+    ensures given { Gives (spec.with_join defs.now before j.now) result }
     ensures few { IfOk result (λ f. length f.called ≤ 8) }
 {
     let (mut called, mut sources) = before.into_parts();
@@ -284,7 +289,7 @@ pub fn tables_of(alloc: Global, defs: &[TableDef], s: &Source) -> Result<Tables,
 {
     let mut tables = first(alloc, defs, &s.first)?;
     for j in s.joins.as_slice() {
-        tables = joined(alloc, defs, tables, j)?;
+        tables = with_join(alloc, defs, tables, j)?;
     }
     Ok(tables)
 }
