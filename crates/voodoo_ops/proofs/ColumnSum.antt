@@ -1,6 +1,6 @@
 -- The program that adds up one column means its exact total.
 use Rattle.std.proofs.Common.{◌≡◌, ℕ, zero, suc, ◌-◌, ◌*◌, ◌^◌, ◌<◌, ◌≤◌, min, ℤ, pos, negsuc, neg_ℤ, ◌≤ℤ◌, List, [], ◌∷◌, ◌++◌, map, take, replicate, Bool, true, false, ◌||◌, not, if◌then◌else◌, refl, ap, sym, ◌∙◌, length, get_or, arith, nat_lt, Some, None, Result, Ok, Err}
-use Rattle.std.specs.Prelude.{FitsSigned, All, codes}
+use Rattle.std.specs.Prelude.{FitsSigned, All, codes, ◌==◌}
 use Rattle.std.specs.Int.{w64}
 use Rattle.std.specs.List.{list_any, flat_map, range_with_len}
 use Rattle.std.proofs.Math.Dec.{eqb-suc-zero}
@@ -25,11 +25,11 @@ use Rattle.programs.specs.Mentions.{Label}
 use Rattle.programs.specs.Vectors.{Attribute, Vector, Env, Named, column, column_of, nothing, put, tables}
 use Rattle.programs.specs.Outlines.{Outline, no_outline}
 use Rattle.programs.specs.Check.{limit_of}
-use Rattle.slot_folds.specs.Runs.{runs as runs_of, joined}
+use Rattle.control_vectors.specs.Runs.{runs as runs_of, joined, slot_eq, differs, side_by_side, run_marks}
+use Rattle.control_vectors.proofs.RunLaws.{marks_side_by_side}
 use Rattle.slot_folds.specs.Folds.{folded, fold_run}
 use Rattle.voodoo_ops.specs.Attributes.{zipped}
 use Rattle.voodoo_ops.specs.Ranges.{ranged}
-use Rattle.voodoo_ops.specs.Runs.{slot_eq, begins, differs}
 use Rattle.voodoo_ops.specs.Folds.{fold}
 use Rattle.voodoo_ops.specs.Meaning.{after_effect, then_run, run_from, shown, meaning}
 use Rattle.voodoo_ops.specs.Sums.{statement, zero_control, sum_statements, column_store, total_slots, total_slot, sum_results, first_slot_of, SumLaws}
@@ -112,18 +112,18 @@ get_or-falses [] i = refl
 get_or-falses (x ∷ xs) zero = refl
 get_or-falses (x ∷ xs) (suc i) = get_or-falses xs i
 
-one_run_is : (xs : List ℤ) (p : Label) → one_run xs ≡ map (begins ((p, zeros (length xs)) ∷ [])) (range_with_len 0 (length xs))
-one_run_is xs p = fill_by_all (begins ((p, zeros (length xs)) ∷ [])) (one_run xs) (length xs) false (each xs) (at xs)
+one_run_is : (xs : List ℤ) → one_run xs ≡ run_marks (side_by_side (length xs) (zeros (length xs) ∷ []))
+one_run_is xs = marks_side_by_side (length xs) (zeros (length xs) ∷ []) (one_run xs) (each xs) (at xs)
   where
     each : (l : List ℤ) → length (one_run l) ≡ length l
     each [] = refl
     each (x ∷ l) = ap suc (length-map l (λ z. false))
 
-    at : (l : List ℤ) (k : ℕ) → k < length l → get_or (one_run l) k false ≡ begins ((p, zeros (length l)) ∷ []) k
+    at : (l : List ℤ) (k : ℕ) → k < length l → get_or (one_run l) k false ≡ (k == 0 || (differs (zeros (length l)) k || false))
     at [] k h = absurd (omega arith)
     at (x ∷ l) zero h = refl
     at (x ∷ l) (suc k) h =
-        get_or-falses l k ∙ sym (ap (λ (b : Bool). b || list_any {X = Attribute} (λ t. differs t.1 (suc k)) ((p, zeros (suc (length l))) ∷ [])) (eqb-suc-zero k) ∙ ap (λ (b : Bool). b || false) (zeros_same (suc (length l)) k h))
+        get_or-falses l k ∙ sym (ap (λ (b : Bool). b || (differs (zeros (suc (length l))) (suc k) || false)) (eqb-suc-zero k) ∙ ap (λ (b : Bool). b || false) (zeros_same (suc (length l)) k h))
 
 -- the column and the zeros beside it
 abbrev both : ℕ → List Slot → List Slot → Vector
@@ -149,7 +149,7 @@ fold_args = record { a = codes "z"; val = codes ".a"; run = codes ".run"; out = 
 summed : (xs : List ℤ) → length xs ≤ 2 ^ 22 → All (FitsSigned w64) xs → fold Sum (both (length xs) (some_slots xs) (zeros (length xs))) fold_args ≡ Ok (column (codes ".sum") (length xs) (total_slots xs))
 summed xs few h =
     let n = length xs in
-    ap (λ (m : List Bool). column_of (codes ".sum") n (all_slots (folded Sum m (some_slots xs)))) (sym (one_run_is xs (codes ".run")))
+    ap (λ (m : List Bool). column_of (codes ".sum") n (all_slots (folded Sum m (some_slots xs)))) (sym (one_run_is xs))
     ∙ ap (λ (l : List Cell). column_of (codes ".sum") n (all_slots l)) (one_total xs few h)
     ∙ ap (column_of (codes ".sum") n) (all_slots-cells_of (total_slots xs))
 

@@ -2,8 +2,8 @@
 use Rattle.std.proofs.Common.{◌≡◌, ℕ, ◌+◌, ◌<◌, ◌≤◌, List, [], ◌∷◌, ◌++◌, Bool, true, false, refl, ap, sym, ◌∙◌, length, drop, get_or, arith, append_assoc, Ok, Err}
 use Rattle.std.proofs.lemmas.List.{drop_more, drop_all, get_or_default}
 use Rattle.control_vectors.specs.Slots.{over}
-use Rattle.programs.specs.declared.op.Op.{Op}
-use Rattle.programs.specs.declared.op.Op.TheVariants.{Persist}
+use Rattle.programs.specs.Families.{Family, family, Persist}
+use Rattle.programs.specs.declared.op.Op.TheVariants as op
 use Rattle.programs.specs.declared.op.Statement.{Statement}
 use Rattle.programs.specs.Mentions.{Label}
 use Rattle.programs.specs.Vectors.{Env, Named, nothing}
@@ -25,7 +25,7 @@ pub chosen_off : (marks : List Bool) (statements : List Statement) (i : ℕ) →
 chosen_off marks statements i each h off = more (get_or statements i none) (drop_more statements i none h)
   where
     none : Statement
-    none = record { name = []; op = Persist [] }
+    none = record { name = []; op = op.Persist [] }
 
     mark : drop i marks ≡ false ∷ drop (i + 1) marks
     mark = drop_more marks i false (omega (arith, each)) ∙ ap (λ (b : Bool). b ∷ drop (i + 1) marks) off
@@ -49,7 +49,7 @@ going_start store env marks statements e r = rw e (record {
   shown = shown_start nothing (chosen marks statements) (chosen marks statements) refl;
 })
 
-pub going_fits : (store env : Env) (marks : List Bool) (statements : List Statement) (i : ℕ) (s : Statement) → Chooses marks statements → i < length statements → get_or marks i false ≡ true → s ≡ get_or statements i s → Going store env marks statements i → Fits (outlines store) (outlines env) s.op
+pub going_fits : (store env : Env) (marks : List Bool) (statements : List Statement) (i : ℕ) (s : Statement) → Chooses marks statements → i < length statements → get_or marks i false ≡ true → s ≡ get_or statements i s → Going store env marks statements i → Fits (outlines store) (outlines env) (family s.op)
 going_fits store env marks statements i s c h on at g =
     ready_fits store env s (drop (i + 1) statements) (rw (here_is statements i s h at) at g.ready) (sym (c.at i s h at) ∙ on)
 
@@ -65,7 +65,7 @@ going_on store env now marks statements i s c h on at made g =
 
 pub going_off : (store env : Env) (marks : List Bool) (statements : List Statement) (i : ℕ) → Chooses marks statements → i < length statements → get_or marks i false ≡ false → Going store env marks statements i → Going store env marks statements (i + 1)
 going_off store env marks statements i c h off g =
-    let none : Statement = record { name = []; op = Persist [] } in
+    let none : Statement = record { name = []; op = op.Persist [] } in
     let s = get_or statements i none in
     let at = get_or_default statements i none s h in
     let same = chosen_off marks statements i c.each h off in
@@ -87,7 +87,7 @@ pub going_shows : (store env : Env) (marks : List Bool) (statements : List State
 going_shows store env marks statements i c h g = shown_end env (chosen marks statements) _ (chosen_end marks statements i c.each h) g.shown
 
 -- ---- results
-result_of-append : (env : Env) (n : Label) (op : Op) (rest : Named) → result_of env n op rest ≡ result_of env n op [] ++ rest
+result_of-append : (env : Env) (n : Label) (op : Family) (rest : Named) → result_of env n op rest ≡ result_of env n op [] ++ rest
 result_of-append env n (Persist a) rest = refl
 result_of-append env n _ rest = refl
 
@@ -99,18 +99,18 @@ pub record Naming (env : Env) (marks : List Bool) (statements : List Statement) 
 pub naming_start : (env : Env) (marks : List Bool) (statements : List Statement) (named : Named) → named ≡ [] → CanShowAll env (chosen marks statements) → Naming env marks statements 0 named
 naming_start env marks statements named e h = rw e (record { so_far = refl; left = h })
 
-pub naming_shows : (env : Env) (marks : List Bool) (statements : List Statement) (i : ℕ) (s : Statement) (named : Named) → length marks ≡ length statements → i < length statements → get_or marks i false ≡ true → s ≡ get_or statements i s → Naming env marks statements i named → CanShow env s.op
+pub naming_shows : (env : Env) (marks : List Bool) (statements : List Statement) (i : ℕ) (s : Statement) (named : Named) → length marks ≡ length statements → i < length statements → get_or marks i false ≡ true → s ≡ get_or statements i s → Naming env marks statements i named → CanShow env (family s.op)
 naming_shows env marks statements i s named each h on at n = let l = rw (chosen_on marks statements i s each h on at) at n.left in l.0
 
-pub naming_on : (env : Env) (marks : List Bool) (statements : List Statement) (i : ℕ) (s : Statement) (named more : Named) → length marks ≡ length statements → i < length statements → get_or marks i false ≡ true → s ≡ get_or statements i s → more ≡ named ++ result_of env s.name s.op [] → Naming env marks statements i named → Naming env marks statements (i + 1) more
+pub naming_on : (env : Env) (marks : List Bool) (statements : List Statement) (i : ℕ) (s : Statement) (named more : Named) → length marks ≡ length statements → i < length statements → get_or marks i false ≡ true → s ≡ get_or statements i s → more ≡ named ++ result_of env s.name (family s.op) [] → Naming env marks statements i named → Naming env marks statements (i + 1) more
 naming_on env marks statements i s named more each h on at m n =
     let first = chosen_on marks statements i s each h on at in
     let rest = results env (chosen (drop (i + 1) marks) (drop (i + 1) statements)) in
     let l = rw first at n.left in
     record {
       so_far = n.so_far ∙ ap (λ (l : List Statement). named ++ results env l) first
-          ∙ ap (λ (l : Named). named ++ l) (result_of-append env s.name s.op rest)
-          ∙ sym (append_assoc named (result_of env s.name s.op []) rest)
+          ∙ ap (λ (l : Named). named ++ l) (result_of-append env s.name (family s.op) rest)
+          ∙ sym (append_assoc named (result_of env s.name (family s.op) []) rest)
           ∙ ap (λ (l : Named). l ++ rest) (sym m);
       left = l.1;
     }

@@ -18,16 +18,18 @@ use Rattle.programs.specs.declared.op.PairArgs.{PairArgs}
 use Rattle.programs.specs.declared.op.FoldArgs.{FoldArgs}
 use Rattle.programs.specs.declared.op.RankArgs.{RankArgs}
 use Rattle.programs.specs.declared.order_keys.OrderPath.{OrderPath}
-use Rattle.programs.specs.declared.op.Op.{Op}
-use Rattle.programs.specs.declared.op.Op.TheVariants.{Load, Range, Cross, Zip, Project, Upsert, Gather, Scatter, Materialize, Order, BitShift}
+use Rattle.programs.specs.Families.{Family, Load, Range, Cross, Zip, Project, Upsert, Gather, Scatter, Rank, Fold, Order, Pair, BitShift}
+use Rattle.programs.specs.declared.family.FoldOperator.{FoldOperator}
+use Rattle.programs.specs.declared.family.RankOperator.{RankOperator}
+use Rattle.control_vectors.specs.declared.PairKind.{PairKind}
 use Rattle.programs.specs.declared.op.ProgramKind.{ProgramKind}
 use Rattle.programs.specs.Mentions.{Label, operand_names, size_names, has_name}
 use Rattle.programs.specs.Vectors.{Attribute, Vector, Env, known}
 use Rattle.programs.specs.Merges.{merged}
 use Rattle.programs.specs.Moves as paths
 use Rattle.programs.specs.Outlines.{Outline, outlined, Shapes, outlines, outline_of, len_in, paths_in}
-use Rattle.programs.specs.Made.{size_in, capped, operand_len_in, pair_len_in, pair_outline, fold_outline, rank_outline, zipped_outline, made_outline}
-use Rattle.programs.specs.Faults.{unknown_name, lacks_path, lacks_below, lacks_operand, lacks_pair, lacks_fold, lacks_rank, no_such_path, no_length, path_clash, too_deep, too_many_keys, first_fault, op_tests}
+use Rattle.programs.specs.Made.{size_in, capped, operand_len_in, pair_len_in, pair_outline, fold_outline, rank_outline, zipped_outline, made_by}
+use Rattle.programs.specs.Faults.{unknown_by, lacks_path, lacks_below, lacks_operand, lacks_pair, lacks_fold, lacks_rank, lacks_by, endless, path_clash, too_deep, has_many_keys, first_fault, tests_by}
 use Rattle.voodoo_ops.specs.Attributes.{zipped, projected, upserted}
 use Rattle.voodoo_ops.specs.Ranges.{crossed}
 use Rattle.voodoo_ops.specs.Meaning.{size_of}
@@ -40,21 +42,21 @@ if_none true k o e = absurd cc
 if_none false k o e = (refl, e)
 
 -- none of the tests holds
-pub record Clear (T V : Shapes) (op : Op) : Type 0 where
-  pub names : unknown_name T V op ≡ false
-  pub paths : no_such_path V op ≡ false
-  pub apart : path_clash (made_outline T V op) ≡ false
-  pub shallow : too_deep (made_outline T V op) ≡ false
-  pub few : too_many_keys op ≡ false
+pub record Clear (T V : Shapes) (op : Family) : Type 0 where
+  pub names : unknown_by T V op ≡ false
+  pub paths : lacks_by V op ≡ false
+  pub apart : path_clash (made_by T V op) ≡ false
+  pub shallow : too_deep (made_by T V op) ≡ false
+  pub few : has_many_keys op ≡ false
 
-pub clear_of : (T V : Shapes) (op : Op) → first_fault (op_tests T V op) ≡ None → Clear T V op
+pub clear_of : (T V : Shapes) (op : Family) → first_fault (tests_by T V op) ≡ None → Clear T V op
 clear_of T V op e =
-    let a = if_none (unknown_name T V op) _ _ e in
-    let b = if_none (no_such_path V op) _ _ a.1 in
-    let c = if_none (no_length op) _ _ b.1 in
-    let d = if_none (path_clash (made_outline T V op)) _ _ c.1 in
-    let f = if_none (too_deep (made_outline T V op)) _ _ d.1 in
-    let g = if_none (too_many_keys op) _ _ f.1 in
+    let a = if_none (unknown_by T V op) _ _ e in
+    let b = if_none (lacks_by V op) _ _ a.1 in
+    let c = if_none (endless op) _ _ b.1 in
+    let d = if_none (path_clash (made_by T V op)) _ _ c.1 in
+    let f = if_none (too_deep (made_by T V op)) _ _ d.1 in
+    let g = if_none (has_many_keys op) _ _ f.1 in
     record { names = a.0; paths = b.0; apart = d.0; shallow = f.0; few = g.0 }
 
 or_false : (a b : Bool) → (a || b) ≡ false → (a ≡ false) × (b ≡ false)
@@ -102,37 +104,37 @@ root_clear : (n : ℕ) (p : Label) → path_clash (outlined n (p ∷ [])) ≡ fa
 root_clear n p e = (or_false (is_root p) false (or_false (is_root p || false) (not true) e).0).0
 
 -- ---- families of operators
-pub pair_fits : (store env : Env) (args : PairArgs) (op : Op) → unknown_name (outlines store) (outlines env) op ≡ list_any (λ a. is_none (outlines env a)) (operand_names args.x ++ operand_names args.y) → no_such_path (outlines env) op ≡ lacks_pair (outlines env) args → made_outline (outlines store) (outlines env) op ≡ pair_outline (outlines env) args → Fits (outlines store) (outlines env) op → CanPair env args
-pair_fits store env args op en ep em f =
-    let c = clear_of (outlines store) (outlines env) op f.sound in
-    let n = list_any_front (outlines env) (operand_names args.x) (operand_names args.y) (sym en ∙ c.names) in
-    let p = or_false (lacks_operand (outlines env) args.x) (lacks_operand (outlines env) args.y) (sym ep ∙ c.paths) in
+pub pair_fits : (store env : Env) (kind : PairKind) (args : PairArgs) → Fits (outlines store) (outlines env) (Pair kind args) → CanPair env args
+pair_fits store env kind args f =
+    let c = clear_of (outlines store) (outlines env) (Pair kind args) f.sound in
+    let n = list_any_front (outlines env) (operand_names args.x) (operand_names args.y) c.names in
+    let p = or_false (lacks_operand (outlines env) args.x) (lacks_operand (outlines env) args.y) c.paths in
     record {
       x = operand_there env args.x n.0 p.0;
       y = operand_there env args.y n.1 p.1;
-      named = root_clear (pair_len_in (outlines env) args.x args.y) args.out (ap path_clash (sym em) ∙ c.apart);
+      named = root_clear (pair_len_in (outlines env) args.x args.y) args.out c.apart;
     }
 
-pub fold_fits : (store env : Env) (args : FoldArgs) (op : Op) → unknown_name (outlines store) (outlines env) op ≡ (is_none (outlines env args.a) || false) → no_such_path (outlines env) op ≡ lacks_fold (outlines env) args → made_outline (outlines store) (outlines env) op ≡ fold_outline (outlines env) args → Fits (outlines store) (outlines env) op → CanFold env args
-fold_fits store env args op en ep em f =
-    let c = clear_of (outlines store) (outlines env) op f.sound in
-    let n = or_false (is_none (outlines env args.a)) false (sym en ∙ c.names) in
-    let p = or_false (lacks_path (outlines env) args.a args.val) (lacks_below (outlines env) args.a args.run) (sym ep ∙ c.paths) in
+pub fold_fits : (store env : Env) (kind : FoldOperator) (args : FoldArgs) → Fits (outlines store) (outlines env) (Fold kind args) → CanFold env args
+fold_fits store env kind args f =
+    let c = clear_of (outlines store) (outlines env) (Fold kind args) f.sound in
+    let n = or_false (is_none (outlines env args.a)) false c.names in
+    let p = or_false (lacks_path (outlines env) args.a args.val) (lacks_below (outlines env) args.a args.run) c.paths in
     record {
       value = attribute_there env args.a args.val n.0 p.0;
-      named = root_clear (len_in (outlines env) args.a) args.out (ap path_clash (sym em) ∙ c.apart);
+      named = root_clear (len_in (outlines env) args.a) args.out c.apart;
     }
 
-pub rank_fits : (store env : Env) (args : RankArgs) (op : Op) → unknown_name (outlines store) (outlines env) op ≡ (is_none (outlines env args.a) || (is_none (outlines env args.b) || false)) → no_such_path (outlines env) op ≡ lacks_rank (outlines env) args → made_outline (outlines store) (outlines env) op ≡ rank_outline (outlines env) args → Fits (outlines store) (outlines env) op → CanRank env args
-rank_fits store env args op en ep em f =
-    let c = clear_of (outlines store) (outlines env) op f.sound in
-    let n = or_false (is_none (outlines env args.a)) (is_none (outlines env args.b) || false) (sym en ∙ c.names) in
+pub rank_fits : (store env : Env) (kind : RankOperator) (args : RankArgs) → Fits (outlines store) (outlines env) (Rank kind args) → CanRank env args
+rank_fits store env kind args f =
+    let c = clear_of (outlines store) (outlines env) (Rank kind args) f.sound in
+    let n = or_false (is_none (outlines env args.a)) (is_none (outlines env args.b) || false) c.names in
     let m = or_false (is_none (outlines env args.b)) false n.1 in
-    let p = or_false (lacks_path (outlines env) args.a args.key) (lacks_path (outlines env) args.b args.pivot) (sym ep ∙ c.paths) in
+    let p = or_false (lacks_path (outlines env) args.a args.key) (lacks_path (outlines env) args.b args.pivot) c.paths in
     record {
       key = attribute_there env args.a args.key n.0 p.0;
       pivot = attribute_there env args.b args.pivot m.0 p.1;
-      named = root_clear (len_in (outlines env) args.a) args.out (ap path_clash (sym em) ∙ c.apart);
+      named = root_clear (len_in (outlines env) args.a) args.out c.apart;
     }
 
 -- ---- the others
@@ -144,7 +146,7 @@ range_fits store env size p control f =
     (subst (λ n. n ≤ 2 ^ 22) (size_same env size) f.small, root_clear (size_in (outlines env) size) p (clear_of (outlines store) (outlines env) (Range size p control) f.sound).apart)
 
 -- the vector of the one name that an operator mentions
-pub copy_fits : (store env : Env) (a : Label) (op : Op) → unknown_name (outlines store) (outlines env) op ≡ (is_none (outlines env a) || false) → Fits (outlines store) (outlines env) op → is_some (env a) ≡ true
+pub copy_fits : (store env : Env) (a : Label) (op : Family) → unknown_by (outlines store) (outlines env) op ≡ (is_none (outlines env a) || false) → Fits (outlines store) (outlines env) op → is_some (env a) ≡ true
 copy_fits store env a op en f = some_of (env a) (or_false (is_none (outlines env a)) false (sym en ∙ (clear_of (outlines store) (outlines env) op f.sound).names)).0
 
 both_there : (env : Env) (a b : Label) → (is_none (outlines env a) || (is_none (outlines env b) || false)) ≡ false → (is_none (outlines env a) ≡ false) × (is_none (outlines env b) ≡ false)
@@ -238,3 +240,7 @@ pub shift_fits : (store env : Env) (x : Operand) (by : ℤ) (out : Label) → Fi
 shift_fits store env x by out f =
     let c = clear_of (outlines store) (outlines env) (BitShift x by out) f.sound in
     (operand_there env x c.names c.paths, root_clear (operand_len_in (outlines env) x) out c.apart)
+
+-- what fits, by another name of its family
+pub fits_as : (T V : Shapes) (f g : Family) → f ≡ g → Fits T V g → Fits T V f
+fits_as T V f g e h = subst (Fits T V) (sym e) h

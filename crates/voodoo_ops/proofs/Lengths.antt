@@ -8,7 +8,7 @@ use Rattle.std.proofs.lemmas.List.FromFn.{length-range_with_len, length-map-rang
 use Rattle.control_vectors.specs.Slots.{Slot, Cell, numbers}
 use Rattle.control_vectors.specs.Folds.{fold_slots}
 use Rattle.control_vectors.specs.declared.FoldKind.{FoldKind}
-use Rattle.slot_folds.specs.Runs.{runs, joined}
+use Rattle.control_vectors.specs.Runs.{runs, joined}
 use Rattle.slot_folds.specs.Folds.{folded, fold_run, selected, select_run, chosen, holds, scanned, scan_run, scan_cell}
 use Rattle.slot_moves.specs.Moves.{slot_at, gathered, writer, writers, bucketed}
 use Rattle.slot_moves.specs.Crosses.{left_places, right_places}

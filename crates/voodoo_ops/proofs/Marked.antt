@@ -1,14 +1,14 @@
 -- The marks of runs, and what is folded over them.
-use Rattle.std.proofs.Common.{◌≡◌, ℕ, Bool, List, length, sym, ap, ◌∙◌, refl}
-use Rattle.std.proofs.lemmas.List.FromFn.{length-map-range_with_len}
+use Rattle.std.proofs.Common.{◌≡◌, ℕ, Bool, List, length, map, sym, ap, ◌∙◌, refl}
 use Rattle.control_vectors.specs.Slots.{Slot}
 use Rattle.programs.specs.Mentions.{Label}
 use Rattle.programs.specs.Vectors.{Vector, slots_of}
 use Rattle.voodoo_ops.specs.Attributes.{below}
-use Rattle.voodoo_ops.specs.Runs.{begins, run_marks}
+use Rattle.control_vectors.proofs.RunLaws.{length_run_marks, length_side_by_side}
+use Rattle.voodoo_ops.specs.Runs.{tuples_below, run_marks}
 
 pub length_marks : (v : Vector) (run : Label) (marks : List Bool) → marks ≡ run_marks v run → length marks ≡ v.len
-length_marks v run marks m = ap (λ (l : List Bool). length l) m ∙ length-map-range_with_len (begins (below run v.attributes)) 0 v.len
+length_marks v run marks m = ap (λ (l : List Bool). length l) m ∙ length_run_marks (tuples_below v run) ∙ length_side_by_side v.len (map (λ t. t.1) (below run v.attributes))
 
 pub as_many : (v w : Vector) (run : Label) (marks : List Bool) (xs : List Slot) → v ≡ w → marks ≡ run_marks v run → length xs ≡ w.len → length marks ≡ length xs
 as_many v w run marks xs is m e = length_marks v run marks m ∙ ap (λ (u : Vector). u.len) is ∙ sym e

@@ -5,6 +5,7 @@ use Rattle.control_vectors.specs.declared.Over.{Over}
 use Rattle.programs.specs.declared.op.Op.{Op}
 use Rattle.programs.specs.declared.op.ProgramKind.{ProgramKind}
 use Rattle.programs.specs.declared.op.Statement.{Statement}
+use Rattle.programs.specs.Families.{family}
 use Rattle.programs.specs.Mentions.{Label}
 use Rattle.programs.specs.Vectors.{Vector, Env, put}
 use Rattle.programs.specs.Outlines.{Outline, Shapes, outlines, outline_of}
@@ -27,12 +28,12 @@ outline_one store env known next now n op short same l e = go (effect store env 
     go : (o : Option (Result Vector Over)) → effect store env op ≡ o → after_effect env n o ≡ Ok now → outlines now ≡ next.vectors
     go None q f =
         let is : env ≡ now = cc in
-        ap outlines (sym is) ∙ same ∙ sym (fun_ext (λ m. learned_result (outlines store) known n m op (no_effect store env op q))) ∙ made
+        ap outlines (sym is) ∙ same ∙ sym (fun_ext (λ m. learned_result (outlines store) known n m op (no_effect store env (family op) q))) ∙ made
     go (Some (Err x)) q f = absurd cc
     go (Some (Ok v)) q f =
         let is : put env n v ≡ now = cc in
-        let foretold : outline_of v ≡ made_outline (outlines store) known.vectors op = outline_made store env op (Ok v) v short q refl ∙ ap (λ (V : Shapes). made_outline (outlines store) V op) same in
-        ap outlines (sym is) ∙ fun_ext (λ m. put_agrees env known.vectors n m v (made_outline (outlines store) known.vectors op) foretold (ap (λ (V : Shapes). V m) same) ∙ sym (learned (outlines store) known n m op (some_effect store env op (Ok v) q))) ∙ made
+        let foretold : outline_of v ≡ made_outline (outlines store) known.vectors op = outline_made store env (family op) (Ok v) v short q refl ∙ ap (λ (V : Shapes). made_outline (outlines store) V op) same in
+        ap outlines (sym is) ∙ fun_ext (λ m. put_agrees env known.vectors n m v (made_outline (outlines store) known.vectors op) foretold (ap (λ (V : Shapes). V m) same) ∙ sym (learned (outlines store) known n m op (some_effect store env (family op) (Ok v) q))) ∙ made
 
 held : (store : Env) (a : List Statement) (known after : Known) (env made : Env) → AllShort after.shape → outlines env ≡ known.vectors → check_from (outlines store) a known ≡ Ok after → run_from store a env ≡ Ok made → outlines made ≡ after.vectors
 held store [] known after env made small same c r =

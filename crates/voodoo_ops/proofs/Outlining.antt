@@ -9,8 +9,8 @@ use Rattle.control_vectors.specs.declared.FoldKind.TheVariants as number
 use Rattle.control_vectors.specs.declared.Over.{Over}
 use Rattle.key_paths.specs.Substructures.{is_before, is_at_or_below}
 use Rattle.struct_vectors.specs.Columns.{some_slots}
-use Rattle.slot_wise.specs.declared.pairing.PairKind.{PairKind}
-use Rattle.slot_wise.specs.declared.pairing.PairKind.TheVariants as kind
+use Rattle.control_vectors.specs.declared.PairKind.{PairKind}
+use Rattle.control_vectors.specs.declared.PairKind.TheVariants as kind
 use Rattle.slot_folds.specs.Folds.{folded, selected, scanned}
 use Rattle.slot_moves.specs.Crosses.{left_places, right_places}
 use Rattle.slot_moves.specs.Moves.{gathered, writers, bucketed}
@@ -23,23 +23,26 @@ use Rattle.programs.specs.declared.op.Operand.TheVariants as operand
 use Rattle.programs.specs.declared.op.PairArgs.{PairArgs}
 use Rattle.programs.specs.declared.op.FoldArgs.{FoldArgs}
 use Rattle.programs.specs.declared.op.RankArgs.{RankArgs}
-use Rattle.programs.specs.declared.op.Op.{Op}
-use Rattle.programs.specs.declared.op.Op.TheVariants.{Load, Persist, Range, Cross, Zip, Project, Upsert, Gather, Scatter, Bucket, Partition, Materialize, Break, FoldSum, FoldMin, FoldMax, FoldSelect, FoldScan, Order, Add, Subtract, Multiply, Divide, Modulo, BitShift, Greater, Equals, LogicalAnd, LogicalOr, Fill}
+use Rattle.programs.specs.declared.family.FoldOperator.{FoldOperator}
+use Rattle.programs.specs.declared.family.FoldOperator.TheVariants as of
+use Rattle.programs.specs.declared.family.RankOperator.{RankOperator}
+use Rattle.programs.specs.declared.family.RankOperator.TheVariants as by
+use Rattle.programs.specs.Families.{Family, family, Load, Persist, Range, Cross, Zip, Project, Upsert, Gather, Scatter, Rank, Materialize, Break, Fold, Order, Pair, BitShift}
 use Rattle.programs.specs.Mentions.{Label}
 use Rattle.programs.specs.Vectors.{Attribute, Vector, Env, known, cut_to, column, column_of, slots_of, put}
 use Rattle.programs.specs.Merges.{merged}
 use Rattle.programs.specs.Moves as paths
 use Rattle.programs.specs.Moves.{moved, others}
 use Rattle.programs.specs.Outlines.{Outline, outlined, Shapes, outlines, outline_of, known_outline, add_shape, len_in, paths_in}
-use Rattle.programs.specs.Made.{size_in, capped, operand_len_in, pair_len_in, pair_outline, fold_outline, rank_outline, zipped_outline, made_outline}
+use Rattle.programs.specs.Made.{size_in, capped, operand_len_in, pair_len_in, pair_outline, fold_outline, rank_outline, zipped_outline, made_by}
 use Rattle.programs.proofs.Merging.{merged-map}
 use Rattle.voodoo_ops.specs.Attributes.{comes_before, below, beside, zipped, projected, resized, upserted}
 use Rattle.voodoo_ops.specs.Ranges.{ranged, crossed}
 use Rattle.voodoo_ops.specs.Slotwise.{pair_len, paired, pair_cells, shifted, shift_cells}
-use Rattle.voodoo_ops.specs.Folds.{fold, fold_select, fold_scan}
+use Rattle.voodoo_ops.specs.Folds.{fold, fold_select, fold_scan, folded_by}
 use Rattle.voodoo_ops.specs.Runs.{run_marks}
-use Rattle.voodoo_ops.specs.Moves.{moved_to, gather, scatter, bucket, partition, order, sort_key}
-use Rattle.voodoo_ops.specs.Meaning.{effect, size_of}
+use Rattle.voodoo_ops.specs.Moves.{moved_to, gather, scatter, bucket, partition, ranked, order, sort_key}
+use Rattle.voodoo_ops.specs.Meaning.{effect_by, size_of}
 
 -- ---- what is known of names
 pub outline_known : (o : Option Vector) → known_outline (option_map outline_of o) ≡ outline_of (known o)
@@ -132,10 +135,25 @@ column_outline out n m (Ok xs) v same h =
 pair_outlined : (k : PairKind) (env : Env) (p : PairArgs) (v : Vector) → paired k env p ≡ Ok v → outline_of v ≡ pair_outline (outlines env) p
 pair_outlined k env p v e = column_outline p.out (pair_len env p.x p.y) (pair_len_in (outlines env) p.x p.y) (all_slots (pair_cells k env p.x p.y)) v (pair_same env p.x p.y) e
 
-fold_outlined : (k : FoldKind) (env : Env) (f : FoldArgs) (v : Vector) → fold k (known (env f.a)) f ≡ Ok v → outline_of v ≡ fold_outline (outlines env) f
-fold_outlined k env f v e =
+number_outlined : (k : FoldKind) (env : Env) (f : FoldArgs) (v : Vector) → fold k (known (env f.a)) f ≡ Ok v → outline_of v ≡ fold_outline (outlines env) f
+number_outlined k env f v e =
     let w = known (env f.a) in
     column_outline f.out w.len (len_in (outlines env) f.a) (all_slots (folded k (run_marks w f.run) (slots_of w.attributes f.val))) v (len_known env f.a) e
+
+fold_outlined : (k : FoldOperator) (env : Env) (f : FoldArgs) (v : Vector) → folded_by k (known (env f.a)) f ≡ Ok v → outline_of v ≡ fold_outline (outlines env) f
+fold_outlined of.Sum env f v e = number_outlined number.Sum env f v e
+fold_outlined of.Min env f v e = number_outlined number.Min env f v e
+fold_outlined of.Max env f v e = number_outlined number.Max env f v e
+fold_outlined of.Select env f v e =
+    let is : fold_select (known (env f.a)) f ≡ v = cc in
+    ap outline_of (sym is) ∙ ap (λ (k : ℕ). outlined k (f.out ∷ [])) (sym (len_known env f.a))
+fold_outlined of.Scan env f v e =
+    let w = known (env f.a) in
+    column_outline f.out w.len (len_in (outlines env) f.a) (all_slots (scanned (run_marks w f.run) (slots_of w.attributes f.val))) v (len_known env f.a) e
+
+rank_outlined : (k : RankOperator) (env : Env) (b : RankArgs) (v : Vector) → ranked k (known (env b.a)) (known (env b.b)) b ≡ v → outline_of v ≡ rank_outline (outlines env) b
+rank_outlined by.Bucket env b v e = ap outline_of (sym e) ∙ ap (λ (k : ℕ). outlined k (b.out ∷ [])) (sym (len_known env b.a))
+rank_outlined by.Partition env b v e = ap outline_of (sym e) ∙ ap (λ (k : ℕ). outlined k (b.out ∷ [])) (sym (len_known env b.a))
 
 -- ---- each operator
 is_some_of : (w : Vector) (r : Result Vector Over) (v : Vector) → (let o : Option (Result Vector Over) = Some (Ok w) in o) ≡ Some r → r ≡ Ok v → w ≡ v
@@ -148,7 +166,7 @@ capped_is : (n : ℕ) → capped n ≤ 2 ^ 22 → capped n ≡ n
 capped_is n h = omega (arith, h)
 
 -- what an operator makes has the outline that is foretold, where that is no limit
-pub outline_made : (store env : Env) (op : Op) (r : Result Vector Over) (v : Vector) → (made_outline (outlines store) (outlines env) op).len ≤ 2 ^ 22 → effect store env op ≡ Some r → r ≡ Ok v → outline_of v ≡ made_outline (outlines store) (outlines env) op
+pub outline_made : (store env : Env) (g : Family) (r : Result Vector Over) (v : Vector) → (made_by (outlines store) (outlines env) g).len ≤ 2 ^ 22 → effect_by store env g ≡ Some r → r ≡ Ok v → outline_of v ≡ made_by (outlines store) (outlines env) g
 outline_made store env (Load t) r v s e f = ap outline_of (sym (is_some_of (known (store t)) r v e f)) ∙ sym (outline_known (store t))
 outline_made store env (Persist a) r v s e f = absurd cc
 outline_made store env (Range size p control) r v s e f =
@@ -180,36 +198,15 @@ outline_made store env (Scatter a size b pos) r v s e f =
     ap outline_of (sym (is_some_of (scatter u n w pos) r v e f))
     ∙ ap (outlined n) (paths-moved (writers n u.len (slots_of w.attributes pos)) u.attributes ∙ sym (paths_known env a))
     ∙ ap (λ (k : ℕ). outlined k (paths_in (outlines env) a)) (sym (size_same env size))
-outline_made store env (Bucket b) r v s e f =
-    ap outline_of (sym (is_some_of (bucket (known (env b.a)) (known (env b.b)) b) r v e f)) ∙ ap (λ (k : ℕ). outlined k (b.out ∷ [])) (sym (len_known env b.a))
-outline_made store env (Partition b) r v s e f =
-    ap outline_of (sym (is_some_of (partition (known (env b.a)) (known (env b.b)) b) r v e f)) ∙ ap (λ (k : ℕ). outlined k (b.out ∷ [])) (sym (len_known env b.a))
+outline_made store env (Rank kind b) r v s e f = rank_outlined kind env b v (is_some_of (ranked kind (known (env b.a)) (known (env b.b)) b) r v e f)
 outline_made store env (Materialize a) r v s e f = ap outline_of (sym (is_some_of (known (env a)) r v e f)) ∙ sym (outline_known (env a))
 outline_made store env (Break a) r v s e f = ap outline_of (sym (is_some_of (known (env a)) r v e f)) ∙ sym (outline_known (env a))
-outline_made store env (FoldSum g) r v s e f = fold_outlined number.Sum env g v (of_some (fold number.Sum (known (env g.a)) g) r v e f)
-outline_made store env (FoldMin g) r v s e f = fold_outlined number.Min env g v (of_some (fold number.Min (known (env g.a)) g) r v e f)
-outline_made store env (FoldMax g) r v s e f = fold_outlined number.Max env g v (of_some (fold number.Max (known (env g.a)) g) r v e f)
-outline_made store env (FoldSelect g) r v s e f =
-    ap outline_of (sym (is_some_of (fold_select (known (env g.a)) g) r v e f)) ∙ ap (λ (k : ℕ). outlined k (g.out ∷ [])) (sym (len_known env g.a))
-outline_made store env (FoldScan g) r v s e f =
-    let w = known (env g.a) in
-    column_outline g.out w.len (len_in (outlines env) g.a) (all_slots (scanned (run_marks w g.run) (slots_of w.attributes g.val))) v (len_known env g.a) (of_some (fold_scan w g) r v e f)
+outline_made store env (Fold kind g) r v s e f = fold_outlined kind env g v (of_some (folded_by kind (known (env g.a)) g) r v e f)
 outline_made store env (Order a mark out keys) r v s e f =
     ap outline_of (sym (is_some_of (order (known (env a)) mark out keys) r v e f)) ∙ ap (λ (k : ℕ). outlined k (out ∷ [])) (sym (len_known env a))
-outline_made store env (Add p) r v s e f = pair_outlined kind.Add env p v (of_some (paired kind.Add env p) r v e f)
-outline_made store env (Subtract p) r v s e f = pair_outlined kind.Subtract env p v (of_some (paired kind.Subtract env p) r v e f)
-outline_made store env (Multiply p) r v s e f = pair_outlined kind.Multiply env p v (of_some (paired kind.Multiply env p) r v e f)
-outline_made store env (Divide p) r v s e f = pair_outlined kind.Divide env p v (of_some (paired kind.Divide env p) r v e f)
-outline_made store env (Modulo p) r v s e f = pair_outlined kind.Modulo env p v (of_some (paired kind.Modulo env p) r v e f)
+outline_made store env (Pair kind p) r v s e f = pair_outlined kind env p v (of_some (paired kind env p) r v e f)
 outline_made store env (BitShift x by out) r v s e f =
-    column_outline out (pair_len env x x) (operand_len_in (outlines env) x) (all_slots (shift_cells env x by)) v (operand_same env x) (of_some (shifted env x by out) r v e f)
-outline_made store env (Greater p) r v s e f = pair_outlined kind.Greater env p v (of_some (paired kind.Greater env p) r v e f)
-outline_made store env (Equals p) r v s e f = pair_outlined kind.Equals env p v (of_some (paired kind.Equals env p) r v e f)
-outline_made store env (LogicalAnd p) r v s e f = pair_outlined kind.LogicalAnd env p v (of_some (paired kind.LogicalAnd env p) r v e f)
-outline_made store env (LogicalOr p) r v s e f = pair_outlined kind.LogicalOr env p v (of_some (paired kind.LogicalOr env p) r v e f)
-outline_made store env (Fill p) r v s e f = pair_outlined kind.Fill env p v (of_some (paired kind.Fill env p) r v e f)
-
--- one more vector has one more outline
+    column_outline out (pair_len env x x) (operand_len_in (outlines env) x) (all_slots (shift_cells env x by)) v (operand_same env x) (of_some (shifted env x by out) r v e f)-- one more vector has one more outline
 pub outlines-put : (env : Env) (n : Label) (v : Vector) (m : Label) → outlines (put env n v) m ≡ add_shape (outlines env) n (outline_of v) m
 outlines-put env n v m = by (bytes_eq n m)
   where

@@ -5,7 +5,7 @@ use Rattle.std.specs.List.{range_with_len}
 use Rattle.std.proofs.Math.Path.{fun_ext}
 use Rattle.std.proofs.lemmas.List.FromFn.{length-map-range_with_len}
 use Rattle.control_vectors.specs.Slots.{Slot, Cell, all_slots}
-use Rattle.slot_wise.specs.declared.pairing.PairKind.{PairKind}
+use Rattle.control_vectors.specs.declared.PairKind.{PairKind}
 use Rattle.slot_wise.specs.declared.source.Source.{Source}
 use Rattle.slot_wise.specs.declared.source.Source.TheVariants.{Column, Number}
 use Rattle.slot_wise.specs.Pairs.{pair_slot, bit_shift_slot}

@@ -7,20 +7,20 @@ use Rattle.std.proofs.lemmas.Bool.{false≢true}
 use Rattle.std.proofs.lemmas.Slice.Eq.{bytes_eq-Decides}
 use Rattle.control_vectors.specs.declared.Over.{Over}
 use Rattle.programs.specs.declared.op.Op.{Op}
-use Rattle.programs.specs.declared.op.Op.TheVariants.{Persist}
+use Rattle.programs.specs.Families.{Family, family, Persist}
 use Rattle.programs.specs.declared.op.Statement.{Statement}
 use Rattle.programs.specs.declared.op.ProgramKind.{ProgramKind}
 use Rattle.programs.specs.declared.op.ProgramKind.TheVariants.{TooManyStatements}
-use Rattle.programs.specs.Mentions.{Label, mentioned, is_persist, has_name}
+use Rattle.programs.specs.Mentions.{Label, mentioned, shows_result, is_persist, has_name}
 use Rattle.programs.specs.Vectors.{Vector, Env, nothing, put, known}
 use Rattle.programs.specs.Reaching.{reach_if, reached, is_reached}
-use Rattle.programs.specs.Outlines.{Outline, Shapes, outlines, outline_of, add_shape}
-use Rattle.programs.specs.Made.{made_outline}
+use Rattle.programs.specs.Outlines.{Outline, no_outline, Shapes, outlines, outline_of, add_shape}
+use Rattle.programs.specs.Made.{made_by, made_outline}
 use Rattle.programs.specs.Faults.{first_fault, op_tests}
-use Rattle.programs.specs.Check.{Known, Fault, fault, Checked, learn, known_behind, fault_of, after_fault, then_check, check_from, at_start, shape_of, names_result, limit_from}
+use Rattle.programs.specs.Check.{Known, with_result, with_vector, Fault, fault, Checked, learn, known_behind, fault_of, after_fault, then_check, check_from, at_start, shape_of, names_result, limit_from}
 use Rattle.programs.proofs.Marks.{has_name-append}
 use Rattle.programs.proofs.ShapeLaws.{all_short}
-use Rattle.voodoo_ops.specs.Meaning.{effect, after_effect, step}
+use Rattle.voodoo_ops.specs.Meaning.{effect_by, effect, after_effect, step}
 use Rattle.voodoo_ops.specs.Fits.{Fits, CanShow, CanShowAll, Runnable}
 use Rattle.voodoo_ops.proofs.Agreeing.{Agree, made_same, tests_same}
 use Rattle.voodoo_ops.proofs.Outlining.{outline_made, outlines-put}
@@ -66,9 +66,19 @@ grows_none xs ys e = record { more = []; is = e ∙ append_none xs }
 grows_then : (xs ys zs : List Outline) (o : Outline) → ys ≡ xs ++ o ∷ [] → Grows ys zs → Grows xs zs
 grows_then xs ys zs o e g = record { more = o ∷ g.more; is = g.is ∙ ap (λ (l : List Outline). l ++ g.more) e ∙ append_assoc xs (o ∷ []) g.more }
 
+nothing_made : (T V : Shapes) (f : Family) → shows_result f ≡ true → made_by T V f ≡ no_outline
+nothing_made T V (Persist a) e = refl
+nothing_made T V _ e = absurd cc
+
 pub shape_behind : (known : Known) (n : Label) (op : Op) (T V : Shapes) → (known_behind known n op (made_outline T V op)).shape ≡ known.shape ++ made_outline T V op ∷ []
-shape_behind known n (Persist a) T V = refl
-shape_behind known n _ T V = refl
+shape_behind known n op T V = by (is_persist op) refl
+  where
+    made : Outline
+    made = made_outline T V op
+
+    by : (b : Bool) → is_persist op ≡ b → (if b then with_result known n else with_vector known n made).shape ≡ known.shape ++ made ∷ []
+    by true e = ap (λ (o : Outline). known.shape ++ o ∷ []) (sym (nothing_made T V (family op) e))
+    by false e = refl
 
 pub grows : (T : Shapes) (rest : List Statement) (known after : Known) → check_from T rest known ≡ Ok after → Grows known.shape after.shape
 grows T [] known after e = let same : known ≡ after = cc in grows_none known.shape after.shape (ap (λ (k : Known). k.shape) (sym same))
@@ -116,32 +126,30 @@ mentions_agree store env s rest r on =
 
 -- ---- a statement that is kept may be run
 
-pub ready_fits : (store env : Env) (s : Statement) (rest : List Statement) → Ready store env (s ∷ rest) → is_reached (reached [] rest).names s ≡ true → Fits (outlines store) (outlines env) s.op
+pub ready_fits : (store env : Env) (s : Statement) (rest : List Statement) → Ready store env (s ∷ rest) → is_reached (reached [] rest).names s ≡ true → Fits (outlines store) (outlines env) (family s.op)
 ready_fits store env s rest r on =
     let T = outlines store in
     let next = learn T r.known s.name s.op in
     let p = passed T rest r.known next r.after (fault_of T r.known s.name s.op) r.passes in
     let same = mentions_agree store env s rest r on in
     record {
-      sound = ap first_fault (tests_same T (outlines env) r.known.vectors s.op same) ∙ front_clear (op_tests T r.known.vectors s.op) _ p.0;
-      small = subst (λ (o : Outline). o.len ≤ 2 ^ 22) (sym (made_same T (outlines env) r.known.vectors s.op same)) (short_one r.known.shape next.shape r.after.shape (made_outline T r.known.vectors s.op) (shape_behind r.known s.name s.op T r.known.vectors) (grows T rest next r.after p.1) r.small);
+      sound = ap first_fault (tests_same T (outlines env) r.known.vectors (family s.op) same) ∙ front_clear (op_tests T r.known.vectors s.op) _ p.0;
+      small = subst (λ (o : Outline). o.len ≤ 2 ^ 22) (sym (made_same T (outlines env) r.known.vectors (family s.op) same)) (short_one r.known.shape next.shape r.after.shape (made_outline T r.known.vectors s.op) (shape_behind r.known s.name s.op T r.known.vectors) (grows T rest next r.after p.1) r.small);
     }
 
 -- ---- behind one more statement
 
 pub learned : (T : Shapes) (known : Known) (n m : Label) (op : Op) → is_persist op ≡ false → (learn T known n op).vectors m ≡ add_shape known.vectors n (made_outline T known.vectors op) m
-learned T known n m (Persist a) e = absurd cc
-learned T known n m _ e = refl
+learned T known n m op e = ap (λ (b : Bool). (if b then with_result known n else with_vector known n (made_outline T known.vectors op)).vectors m) e
 
 pub learned_result : (T : Shapes) (known : Known) (n m : Label) (op : Op) → is_persist op ≡ true → (learn T known n op).vectors m ≡ known.vectors m
-learned_result T known n m (Persist a) e = refl
-learned_result T known n m _ e = absurd cc
+learned_result T known n m op e = ap (λ (b : Bool). (if b then with_result known n else with_vector known n (made_outline T known.vectors op)).vectors m) e
 
-pub no_effect : (store env : Env) (op : Op) → effect store env op ≡ None → is_persist op ≡ true
+pub no_effect : (store env : Env) (f : Family) → effect_by store env f ≡ None → shows_result f ≡ true
 no_effect store env (Persist a) e = refl
 no_effect store env _ e = absurd cc
 
-pub some_effect : (store env : Env) (op : Op) (r : Result Vector Over) → effect store env op ≡ Some r → is_persist op ≡ false
+pub some_effect : (store env : Env) (f : Family) (r : Result Vector Over) → effect_by store env f ≡ Some r → shows_result f ≡ false
 some_effect store env (Persist a) r e = absurd cc
 some_effect store env _ r e = refl
 
@@ -175,18 +183,18 @@ ready_next store env now s rest r on e = go (effect store env s.op) refl e
           after = r.after;
           passes = p.1;
           small = r.small;
-          agree = λ m h. kept m h ∙ sym (learned_result (outlines store) r.known s.name m s.op (no_effect store env s.op q));
+          agree = λ m h. kept m h ∙ sym (learned_result (outlines store) r.known s.name m s.op (no_effect store env (family s.op) q));
         })
     go (Some (Err x)) q f = absurd cc
     go (Some (Ok v)) q f =
         let same : put env s.name v ≡ now = cc in
-        let made : outline_of v ≡ made_outline (outlines store) r.known.vectors s.op = outline_made store env s.op (Ok v) v (ready_fits store env s rest r on).small q refl ∙ made_same (outlines store) (outlines env) r.known.vectors s.op (mentions_agree store env s rest r on) in
+        let made : outline_of v ≡ made_outline (outlines store) r.known.vectors s.op = outline_made store env (family s.op) (Ok v) v (ready_fits store env s rest r on).small q refl ∙ made_same (outlines store) (outlines env) r.known.vectors (family s.op) (mentions_agree store env s rest r on) in
         subst (λ (k : Env). Ready store k rest) same (record {
           known = next;
           after = r.after;
           passes = p.1;
           small = r.small;
-          agree = λ m h. put_agrees env r.known.vectors s.name m v (made_outline (outlines store) r.known.vectors s.op) made (kept m h) ∙ sym (learned (outlines store) r.known s.name m s.op (some_effect store env s.op (Ok v) q));
+          agree = λ m h. put_agrees env r.known.vectors s.name m v (made_outline (outlines store) r.known.vectors s.op) made (kept m h) ∙ sym (learned (outlines store) r.known s.name m s.op (some_effect store env (family s.op) (Ok v) q));
         })
 
 -- a statement that is not kept
@@ -251,20 +259,20 @@ some_put env n m v h = by (bytes_eq n m)
     by true = refl
     by false = h
 
-show_put : (env : Env) (n : Label) (v : Vector) (op : Op) → CanShow env op → CanShow (put env n v) op
+show_put : (env : Env) (n : Label) (v : Vector) (op : Family) → CanShow env op → CanShow (put env n v) op
 show_put env n v (Persist a) h = some_put env n a v h
 show_put env n v _ h = tt
 
 shows_put : (env : Env) (n : Label) (v : Vector) (l : List Statement) → CanShowAll env l → CanShowAll (put env n v) l
 shows_put env n v [] h = tt
-shows_put env n v (s ∷ l) h = (show_put env n v s.op h.0, shows_put env n v l h.1)
+shows_put env n v (s ∷ l) h = (show_put env n v (family s.op) h.0, shows_put env n v l h.1)
 
 shows_after : (env now : Env) (n : Label) (o : Option (Result Vector Over)) (l : List Statement) → after_effect env n o ≡ Ok now → CanShowAll env l → CanShowAll now l
 shows_after env now n None l e h = let same : env ≡ now = cc in subst (λ (k : Env). CanShowAll k l) same h
 shows_after env now n (Some (Err x)) l e h = absurd cc
 shows_after env now n (Some (Ok v)) l e h = let same : put env n v ≡ now = cc in subst (λ (k : Env). CanShowAll k l) same (shows_put env n v l h)
 
-shows_end : (env : Env) (l : List Statement) (s : Statement) → CanShowAll env l → CanShow env s.op → CanShowAll env (l ++ s ∷ [])
+shows_end : (env : Env) (l : List Statement) (s : Statement) → CanShowAll env l → CanShow env (family s.op) → CanShowAll env (l ++ s ∷ [])
 shows_end env [] s h k = (k, tt)
 shows_end env (t ∷ l) s h k = (h.0, shows_end env l s h.1 k)
 
@@ -273,11 +281,11 @@ some_shape : (o : Option Vector) → is_none (option_map outline_of o) ≡ false
 some_shape None e = absurd cc
 some_shape (Some v) e = refl
 
-can_show : (store env : Env) (op : Op) → Fits (outlines store) (outlines env) op → CanShow env op
+can_show : (store env : Env) (op : Family) → Fits (outlines store) (outlines env) op → CanShow env op
 can_show store env (Persist a) f = some_shape (env a) (or_left (is_none (outlines env a)) false (clear_of (outlines store) (outlines env) (Persist a) f.sound).names).0
 can_show store env _ f = tt
 
-show_step : (env now : Env) (n : Label) (op : Op) (o : Option (Result Vector Over)) → after_effect env n o ≡ Ok now → CanShow env op → CanShow now op
+show_step : (env now : Env) (n : Label) (op : Family) (o : Option (Result Vector Over)) → after_effect env n o ≡ Ok now → CanShow env op → CanShow now op
 show_step env now n op None e h = let same : env ≡ now = cc in subst (λ (k : Env). CanShow k op) same h
 show_step env now n op (Some (Err x)) e h = absurd cc
 show_step env now n op (Some (Ok v)) e h = let same : put env n v ≡ now = cc in subst (λ (k : Env). CanShow k op) same (show_put env n v op h)
@@ -291,11 +299,11 @@ pub record Shown (env : Env) (whole left : List Statement) : Type 0 where
 pub shown_start : (env : Env) (whole left : List Statement) → whole ≡ left → Shown env whole left
 shown_start env whole left e = record { done = []; is = e; shows = tt }
 
-pub shown_next : (store env now : Env) (whole left rest : List Statement) (s : Statement) → left ≡ s ∷ rest → Fits (outlines store) (outlines env) s.op → step store env s.name s.op ≡ Ok now → Shown env whole left → Shown now whole rest
+pub shown_next : (store env now : Env) (whole left rest : List Statement) (s : Statement) → left ≡ s ∷ rest → Fits (outlines store) (outlines env) (family s.op) → step store env s.name s.op ≡ Ok now → Shown env whole left → Shown now whole rest
 shown_next store env now whole left rest s e f h sh = record {
   done = sh.done ++ s ∷ [];
   is = sh.is ∙ ap (λ (l : List Statement). sh.done ++ l) e ∙ sym (append_assoc sh.done (s ∷ []) rest);
-  shows = shows_end now sh.done s (shows_after env now s.name (effect store env s.op) sh.done h sh.shows) (show_step env now s.name s.op (effect store env s.op) h (can_show store env s.op f));
+  shows = shows_end now sh.done s (shows_after env now s.name (effect store env s.op) sh.done h sh.shows) (show_step env now s.name (family s.op) (effect store env s.op) h (can_show store env (family s.op) f));
 }
 
 append_empty : (xs : List Statement) → xs ++ [] ≡ xs

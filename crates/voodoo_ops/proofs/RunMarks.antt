@@ -1,7 +1,7 @@
 -- Where the runs of a vector's attributes begin.
 use Rattle.std.proofs.Common.{◌≡◌, ℕ, zero, suc, ◌+◌, ◌-◌, ◌<◌, ◌≤◌, List, [], ◌∷◌, Bool, true, false, ◌||◌, ◌&&◌, not, if◌then◌else◌, refl, ap, sym, ◌∙◌, length, take, set, get_or, map, arith, Some, None, inl, inr}
 use Rattle.std.proofs.lemmas.Bool.{cases_lt}
-use Rattle.std.specs.Prelude.{slice_get}
+use Rattle.std.specs.Prelude.{slice_get, ◌==◌}
 use Rattle.std.specs.List.{list_any, range_with_len}
 use Rattle.std.proofs.lemmas.List.FromFn.{fill_by_all}
 use Rattle.std.proofs.Math.Dec.{eqb-suc-zero}
@@ -15,7 +15,9 @@ use Rattle.struct_vectors.specs.Vectors.{paths_of, columns_of, HaveLength}
 use Rattle.programs.specs.Mentions.{Label}
 use Rattle.programs.specs.Vectors.{Attribute, seen_attributes}
 use Rattle.voodoo_ops.specs.Attributes.{below}
-use Rattle.voodoo_ops.specs.Runs.{slot_eq, begins, differs, changes_below}
+use Rattle.control_vectors.specs.Runs.{slot_eq, differs, side_by_side, run_marks}
+use Rattle.control_vectors.proofs.RunLaws.{marks_side_by_side}
+use Rattle.voodoo_ops.specs.Runs.{changes_below}
 
 or_false : (b : Bool) → (b || false) ≡ b
 or_false true = refl
@@ -110,9 +112,13 @@ marking_keep old now xs i low m e = record {
 }
 
 -- ---- all marks
-pub marks_are : (marks : List Bool) (keys : List Attribute) (n : ℕ) → length marks ≡ n → (0 < length marks → get_or marks 0 false ≡ true) → ((k : ℕ) → 0 < k → k < length marks → get_or marks k false ≡ list_any (λ t. differs t.1 k) keys) → marks ≡ map (begins keys) (range_with_len 0 n)
-marks_are marks keys n each first later = fill_by_all (begins keys) marks n false each at
+any_column : (keys : List Attribute) (k : ℕ) → list_any (λ t. differs t.1 k) keys ≡ list_any (λ xs. differs xs k) (map (λ t. t.1) keys)
+any_column [] k = refl
+any_column (t ∷ keys) k = ap (λ (b : Bool). differs t.1 k || b) (any_column keys k)
+
+pub marks_are : (marks : List Bool) (keys : List Attribute) (n : ℕ) → length marks ≡ n → (0 < length marks → get_or marks 0 false ≡ true) → ((k : ℕ) → 0 < k → k < length marks → get_or marks k false ≡ list_any (λ t. differs t.1 k) keys) → marks ≡ run_marks (side_by_side n (map (λ t. t.1) keys))
+marks_are marks keys n each first later = marks_side_by_side n (map (λ t. t.1) keys) marks each at
   where
-    at : (k : ℕ) → k < n → get_or marks k false ≡ begins keys k
+    at : (k : ℕ) → k < n → get_or marks k false ≡ (k == 0 || list_any (λ xs. differs xs k) (map (λ t. t.1) keys))
     at zero h = first (omega arith)
-    at (suc k) h = later (suc k) (omega arith) (omega arith) ∙ sym (ap (λ (b : Bool). b || list_any (λ t. differs t.1 (suc k)) keys) (eqb-suc-zero k))
+    at (suc k) h = later (suc k) (omega arith) (omega arith) ∙ any_column keys (suc k) ∙ sym (ap (λ (b : Bool). b || list_any (λ xs. differs xs (suc k)) (map (λ t. t.1) keys)) (eqb-suc-zero k))

@@ -1,12 +1,10 @@
 -- What a program means: its reached statements, each by its operator's meaning, in order; then the named results.
 use Rattle.std.specs.Prelude.{ℕ, List, [], ◌∷◌, Option, Some, None, Result, Ok, Err}
-use Rattle.control_vectors.specs.declared.FoldKind.TheVariants as number
 use Rattle.control_vectors.specs.declared.Over.{Over}
-use Rattle.slot_wise.specs.declared.pairing.PairKind.TheVariants as kind
 use Rattle.programs.specs.declared.op.Size.{Size}
 use Rattle.programs.specs.declared.op.Size.TheVariants.{Number, Of}
 use Rattle.programs.specs.declared.op.Op.{Op}
-use Rattle.programs.specs.declared.op.Op.TheVariants.{Load, Persist, Range, Cross, Zip, Project, Upsert, Gather, Scatter, Bucket, Partition, Materialize, Break, FoldSum, FoldMin, FoldMax, FoldSelect, FoldScan, Order, Add, Subtract, Multiply, Divide, Modulo, BitShift, Greater, Equals, LogicalAnd, LogicalOr, Fill}
+use Rattle.programs.specs.Families.{Family, family, Load, Persist, Range, Cross, Zip, Project, Upsert, Gather, Scatter, Rank, Materialize, Break, Fold, Order, Pair, BitShift}
 use Rattle.programs.specs.declared.op.Statement.{Statement}
 use Rattle.programs.specs.Mentions.{Label}
 use Rattle.programs.specs.Vectors.{Vector, Env, nothing, put, known, Named}
@@ -14,8 +12,8 @@ use Rattle.programs.specs.Reaching.{reached}
 use Rattle.voodoo_ops.specs.Ranges.{ranged, crossed}
 use Rattle.voodoo_ops.specs.Attributes.{zipped, projected, upserted}
 use Rattle.voodoo_ops.specs.Slotwise.{paired, shifted}
-use Rattle.voodoo_ops.specs.Moves.{gather, scatter, bucket, partition, order}
-use Rattle.voodoo_ops.specs.Folds.{fold, fold_select, fold_scan}
+use Rattle.voodoo_ops.specs.Moves.{gather, scatter, ranked, order}
+use Rattle.voodoo_ops.specs.Folds.{folded_by}
 
 -- ---- statements
 abbrev pub Run : Type 0
@@ -30,37 +28,26 @@ size_of env (Number n) = n
 size_of env (Of a) = (at_name env a).len
 
 -- what an operator makes of the vectors by name, over a store of tables; none for a Persist
+abbrev pub effect_by : Env → Env → Family → Option (Result Vector Over)
+effect_by store env (Load t) = Some (Ok (at_name store t))
+effect_by store env (Persist a) = None
+effect_by store env (Range size p control) = Some (Ok (ranged (size_of env size) p control))
+effect_by store env (Cross a p b q) = Some (Ok (crossed (at_name env a).len p (at_name env b).len q))
+effect_by store env (Zip a b) = Some (Ok (zipped (at_name env a) (at_name env b)))
+effect_by store env (Project a p q) = Some (Ok (projected (at_name env a) p q))
+effect_by store env (Upsert a p b q) = Some (Ok (upserted (at_name env a) p (at_name env b) q))
+effect_by store env (Gather a b pos) = Some (Ok (gather (at_name env a) (at_name env b) pos))
+effect_by store env (Scatter a size b pos) = Some (Ok (scatter (at_name env a) (size_of env size) (at_name env b) pos))
+effect_by store env (Rank kind r) = Some (Ok (ranked kind (at_name env r.a) (at_name env r.b) r))
+effect_by store env (Materialize a) = Some (Ok (at_name env a))
+effect_by store env (Break a) = Some (Ok (at_name env a))
+effect_by store env (Fold kind f) = Some (folded_by kind (at_name env f.a) f)
+effect_by store env (Order a mark out keys) = Some (Ok (order (at_name env a) mark out keys))
+effect_by store env (Pair kind p) = Some (paired kind env p)
+effect_by store env (BitShift x by out) = Some (shifted env x by out)
+
 abbrev pub effect : Env → Env → Op → Option (Result Vector Over)
-effect store env (Load t) = Some (Ok (at_name store t))
-effect store env (Persist a) = None
-effect store env (Range size p control) = Some (Ok (ranged (size_of env size) p control))
-effect store env (Cross a p b q) = Some (Ok (crossed (at_name env a).len p (at_name env b).len q))
-effect store env (Zip a b) = Some (Ok (zipped (at_name env a) (at_name env b)))
-effect store env (Project a p q) = Some (Ok (projected (at_name env a) p q))
-effect store env (Upsert a p b q) = Some (Ok (upserted (at_name env a) p (at_name env b) q))
-effect store env (Gather a b pos) = Some (Ok (gather (at_name env a) (at_name env b) pos))
-effect store env (Scatter a size b pos) = Some (Ok (scatter (at_name env a) (size_of env size) (at_name env b) pos))
-effect store env (Bucket r) = Some (Ok (bucket (at_name env r.a) (at_name env r.b) r))
-effect store env (Partition r) = Some (Ok (partition (at_name env r.a) (at_name env r.b) r))
-effect store env (Materialize a) = Some (Ok (at_name env a))
-effect store env (Break a) = Some (Ok (at_name env a))
-effect store env (FoldSum f) = Some (fold number.Sum (at_name env f.a) f)
-effect store env (FoldMin f) = Some (fold number.Min (at_name env f.a) f)
-effect store env (FoldMax f) = Some (fold number.Max (at_name env f.a) f)
-effect store env (FoldSelect f) = Some (Ok (fold_select (at_name env f.a) f))
-effect store env (FoldScan f) = Some (fold_scan (at_name env f.a) f)
-effect store env (Order a mark out keys) = Some (Ok (order (at_name env a) mark out keys))
-effect store env (Add p) = Some (paired kind.Add env p)
-effect store env (Subtract p) = Some (paired kind.Subtract env p)
-effect store env (Multiply p) = Some (paired kind.Multiply env p)
-effect store env (Divide p) = Some (paired kind.Divide env p)
-effect store env (Modulo p) = Some (paired kind.Modulo env p)
-effect store env (BitShift x by out) = Some (shifted env x by out)
-effect store env (Greater p) = Some (paired kind.Greater env p)
-effect store env (Equals p) = Some (paired kind.Equals env p)
-effect store env (LogicalAnd p) = Some (paired kind.LogicalAnd env p)
-effect store env (LogicalOr p) = Some (paired kind.LogicalOr env p)
-effect store env (Fill p) = Some (paired kind.Fill env p)
+effect store env op = effect_by store env (family op)
 
 abbrev pub after_effect : Env → Label → Option (Result Vector Over) → Run
 after_effect env n None = Ok env
@@ -81,14 +68,14 @@ run_from store [] env = Ok env
 run_from store (s ∷ rest) env = then_run (step store env s.name s.op) (run_from store rest)
 
 -- ---- the program
-abbrev pub result_of : Env → Label → Op → Named → Named
+abbrev pub result_of : Env → Label → Family → Named → Named
 result_of env n (Persist a) rest = (n, known (env a)) ∷ rest
 result_of env n _ rest = rest
 
 -- the named results, in the order of the Persist statements
 abbrev pub results : Env → List Statement → Named
 results env [] = []
-results env (s ∷ rest) = result_of env s.name s.op (results env rest)
+results env (s ∷ rest) = result_of env s.name (family s.op) (results env rest)
 
 abbrev pub shown : Run → List Statement → Result Named Over
 shown (Err e) statements = Err e

@@ -5,6 +5,8 @@ use Rattle.slot_moves.specs.Moves.{gathered, writers, bucketed}
 use Rattle.sort_order.specs.Buckets.{partitioned}
 use Rattle.sort_order.specs.Keys.{SortKey}
 use Rattle.sort_order.specs.Orders.{ordered}
+use Rattle.programs.specs.declared.family.RankOperator.{RankOperator}
+use Rattle.programs.specs.declared.family.RankOperator.TheVariants.{Bucket, Partition}
 use Rattle.programs.specs.declared.op.RankArgs.{RankArgs}
 use Rattle.programs.specs.declared.order_keys.OrderPath.{OrderPath}
 use Rattle.programs.specs.Mentions.{Label}
@@ -29,6 +31,10 @@ bucket a b r = column r.out a.len (bucketed (slots_of a.attributes r.key) (slots
 -- Partition: the place of each key among the keys by their buckets
 abbrev pub partition : Vector → Vector → RankArgs → Vector
 partition a b r = column r.out a.len (partitioned (numbers (slots_of b.attributes r.pivot)) (slots_of a.attributes r.key))
+
+abbrev pub ranked : RankOperator → Vector → Vector → RankArgs → Vector
+ranked Bucket a b r = bucket a b r
+ranked Partition a b r = partition a b r
 
 -- Order: the marked places, sorted by the keys
 abbrev pub sort_key : Vector → OrderPath → SortKey

@@ -3,7 +3,7 @@ use Rattle.std.specs.Prelude.{ℕ, ℤ, min, List, map, Some, Result}
 use Rattle.std.specs.List.{range_with_len}
 use Rattle.control_vectors.specs.Slots.{Slot, Cell, all_slots}
 use Rattle.control_vectors.specs.declared.Over.{Over}
-use Rattle.slot_wise.specs.declared.pairing.PairKind.{PairKind}
+use Rattle.control_vectors.specs.declared.PairKind.{PairKind}
 use Rattle.slot_wise.specs.Pairs.{pair_slot, bit_shift_slot}
 use Rattle.programs.specs.declared.op.Operand.{Operand}
 use Rattle.programs.specs.declared.op.Operand.TheVariants.{Column, Number}

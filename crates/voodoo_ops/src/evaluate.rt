@@ -2,6 +2,7 @@
 
 ghost use Rattle.std.specs.Prelude.{◌≡◌, ◌++◌, [], true, false, is_some, length, IfOk, OnOk, Ok};
 ghost use Rattle.slot_columns.specs.Stops.{Exact};
+ghost use Rattle.programs.specs.Families.{family};
 ghost use Rattle.programs.specs.Mentions.{is_persist};
 ghost use Rattle.programs.specs.Outlines.{outlines};
 ghost use Rattle.programs.specs.Reaching.{Chooses, chosen};
@@ -13,21 +14,19 @@ ghost use Rattle.voodoo_ops.specs.Stops.{Makes};
 
 use crate::NoMemory;
 use crate::attributes::{project_made, upsert_made};
-use crate::folds::{fold_made, scan_made, select_made};
+use crate::folds::fold_made;
 use crate::made::Made;
-use crate::moves::{bucket_made, gather_made, partition_made, scatter_made};
+use crate::moves::{gather_made, rank_made, scatter_made};
 use crate::ranges::{cross_made, range_made};
 use crate::reading::vector;
 use crate::results::Results;
 use crate::slotwise::{pair_made, shift_made};
 use crate::sorting::order_made;
 use crate::zip::zip_made;
-use control_vectors::FoldKind;
 use io_edge::Name;
 use programs::reach::reached_marks;
-use programs::{Op, Program, Statement};
+use programs::{Family, Op, Program, Statement};
 use slot_columns::Stop;
-use slot_wise::PairKind;
 use std::alloc::Global;
 use struct_vectors::{Store, StructVector};
 
@@ -65,7 +64,7 @@ fn run_chosen(
 
 /// Adds the vector that a statement makes, if it makes one.
 fn run_one(alloc: Global, store: &Store, made: Made, s: &Statement) -> Result<Made, Stop>
-    requires { Fits (outlines (tables store.now)) (outlines (env_in made)) s.now.op }
+    requires { Fits (outlines (tables store.now)) (outlines (env_in made)) (family s.now.op) }
     ensures { Exact env_in result (step (tables store.now) (env_in made) s.now.name s.now.op) }
 {
     if s.op.persists() {
@@ -77,41 +76,27 @@ fn run_one(alloc: Global, store: &Store, made: Made, s: &Statement) -> Result<Ma
 
 /// The vector that an operator makes of the vectors by name.
 fn make(alloc: Global, store: &Store, made: &Made, op: &Op) -> Result<StructVector, Stop>
-    requires fits { Fits (outlines (tables store.now)) (outlines (env_in made.now)) op.now }
+    requires fits { Fits (outlines (tables store.now)) (outlines (env_in made.now)) (family op.now) }
     requires makes { is_persist op.now ≡ false }
     ensures { Makes result (effect (tables store.now) (env_in made.now) op.now) }
 {
-    match op {
-        Op::Load { table } => load_made(alloc, store, table),
-        Op::Persist { .. } => unreachable!(),
-        Op::Range { size, out, control } => range_made(alloc, made, size, out, *control),
-        Op::Cross { a, p, b, q } => cross_made(alloc, made, a, p, b, q),
-        Op::Zip { a, b } => zip_made(alloc, made, a, b),
-        Op::Project { a, p, q } => project_made(alloc, made, a, p, q),
-        Op::Upsert { a, p, b, q } => upsert_made(alloc, made, a, p, b, q),
-        Op::Gather { a, b, pos } => gather_made(alloc, made, a, b, pos),
-        Op::Scatter { a, size, b, pos } => scatter_made(alloc, made, a, size, b, pos),
-        Op::Bucket(args) => bucket_made(alloc, made, args),
-        Op::Partition(args) => partition_made(alloc, made, args),
-        Op::Materialize { a } => copy_made(alloc, made, a),
-        Op::Break { a } => copy_made(alloc, made, a),
-        Op::FoldSum(args) => fold_made(alloc, made, FoldKind::Sum, args),
-        Op::FoldMin(args) => fold_made(alloc, made, FoldKind::Min, args),
-        Op::FoldMax(args) => fold_made(alloc, made, FoldKind::Max, args),
-        Op::FoldSelect(args) => select_made(alloc, made, args),
-        Op::FoldScan(args) => scan_made(alloc, made, args),
-        Op::Order { a, mark, out, keys } => order_made(alloc, made, a, mark, out, keys),
-        Op::Add(args) => pair_made(alloc, made, PairKind::Add, args),
-        Op::Subtract(args) => pair_made(alloc, made, PairKind::Subtract, args),
-        Op::Multiply(args) => pair_made(alloc, made, PairKind::Multiply, args),
-        Op::Divide(args) => pair_made(alloc, made, PairKind::Divide, args),
-        Op::Modulo(args) => pair_made(alloc, made, PairKind::Modulo, args),
-        Op::BitShift { x, by, out } => shift_made(alloc, made, x, *by, out),
-        Op::Greater(args) => pair_made(alloc, made, PairKind::Greater, args),
-        Op::Equals(args) => pair_made(alloc, made, PairKind::Equals, args),
-        Op::LogicalAnd(args) => pair_made(alloc, made, PairKind::LogicalAnd, args),
-        Op::LogicalOr(args) => pair_made(alloc, made, PairKind::LogicalOr, args),
-        Op::Fill(args) => pair_made(alloc, made, PairKind::Fill, args),
+    match op.family() {
+        Family::Load { table } => load_made(alloc, store, table),
+        Family::Persist { .. } => unreachable!(),
+        Family::Range { size, out, control } => range_made(alloc, made, size, out, control),
+        Family::Cross { a, p, b, q } => cross_made(alloc, made, a, p, b, q),
+        Family::Zip { a, b } => zip_made(alloc, made, a, b),
+        Family::Project { a, p, q } => project_made(alloc, made, a, p, q),
+        Family::Upsert { a, p, b, q } => upsert_made(alloc, made, a, p, b, q),
+        Family::Gather { a, b, pos } => gather_made(alloc, made, a, b, pos),
+        Family::Scatter { a, size, b, pos } => scatter_made(alloc, made, a, size, b, pos),
+        Family::Rank(kind, args) => rank_made(alloc, made, kind, args),
+        Family::Materialize { a } => copy_made(alloc, made, a),
+        Family::Break { a } => copy_made(alloc, made, a),
+        Family::Fold(kind, args) => fold_made(alloc, made, kind, args),
+        Family::Order { a, mark, out, keys } => order_made(alloc, made, a, mark, out, keys),
+        Family::Pair(kind, args) => pair_made(alloc, made, kind, args),
+        Family::BitShift { x, by, out } => shift_made(alloc, made, x, by, out),
     }
 }
 
@@ -161,8 +146,8 @@ fn name_result(
     named: &mut Vec<(Name, StructVector)>,
     s: &Statement,
 ) -> Result<(), NoMemory>
-    requires { CanShow (env_in made.now) s.now.op }
-    ensures { OnOk result (seen_all named.new.items ≡ seen_all named.old.items ++ result_of (env_in made.now) s.now.name s.now.op []) }
+    requires { CanShow (env_in made.now) (family s.now.op) }
+    ensures { OnOk result (seen_all named.new.items ≡ seen_all named.old.items ++ result_of (env_in made.now) s.now.name (family s.now.op) []) }
 {
     if let Op::Persist { a } = &s.op {
         let v = vector(made, a).copied(alloc)?;

@@ -10,7 +10,7 @@ use std::alloc::Global;
 use struct_vectors::StructVector;
 
 /// Vectors by name. Contracts see it by `env_in`, a function from a name to the slots of its vector.
-#[derive(Debug, Drop)]
+#[derive(Drop)]
 pub struct Made {
     vectors: Vec<StructVector>,
     places: Index,

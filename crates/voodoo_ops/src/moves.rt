@@ -8,7 +8,7 @@ ghost use Rattle.voodoo_ops.specs.Columns.{column_at, path_at};
 ghost use Rattle.voodoo_ops.specs.Envs.{env_in};
 ghost use Rattle.voodoo_ops.specs.Meaning.{size_of};
 ghost use Rattle.voodoo_ops.specs.Moves as spec;
-ghost use Rattle.voodoo_ops.specs.Moves.{bucket, moved_to, partition, scatter};
+ghost use Rattle.voodoo_ops.specs.Moves.{bucket, moved_to, partition, ranked, scatter};
 ghost use Rattle.voodoo_ops.specs.Reading.{CanRank, HasAttribute};
 
 use crate::NoMemory;
@@ -17,7 +17,7 @@ use crate::reading::{attribute, size_in, vector};
 use crate::single::named;
 use io_edge::Name;
 use key_paths::Path;
-use programs::{RankArgs, Size};
+use programs::{RankArgs, RankOperator, Size};
 use slot_columns::Stop;
 use slot_moves::{buckets, gather, partitions, writers};
 use std::alloc::Global;
@@ -105,8 +105,25 @@ fn push_at(
     Ok(())
 }
 
+/// The vector that a Bucket or a Partition makes.
+pub(crate) fn rank_made(
+    alloc: Global,
+    made: &Made,
+    kind: RankOperator,
+    args: &RankArgs,
+) -> Result<StructVector, Stop>
+    requires { CanRank (env_in made.now) args.now }
+    ensures { Exact seen result
+        (Ok (ranked kind (known ((env_in made.now) args.now.a)) (known ((env_in made.now) args.now.b)) args.now)) }
+{
+    match kind {
+        RankOperator::Bucket => bucket_made(alloc, made, args),
+        RankOperator::Partition => partition_made(alloc, made, args),
+    }
+}
+
 /// The vector that Bucket makes.
-pub(crate) fn bucket_made(alloc: Global, made: &Made, args: &RankArgs) -> Result<StructVector, Stop>
+fn bucket_made(alloc: Global, made: &Made, args: &RankArgs) -> Result<StructVector, Stop>
     requires { CanRank (env_in made.now) args.now }
     ensures { Exact seen result
         (Ok (bucket (known ((env_in made.now) args.now.a)) (known ((env_in made.now) args.now.b)) args.now)) }
@@ -117,7 +134,7 @@ pub(crate) fn bucket_made(alloc: Global, made: &Made, args: &RankArgs) -> Result
 }
 
 /// The vector that Partition makes.
-pub(crate) fn partition_made(
+fn partition_made(
     alloc: Global,
     made: &Made,
     args: &RankArgs,

@@ -7,7 +7,7 @@ use std::marker::Model;
 use struct_vectors::StructVector;
 
 /// The named results of a program, in the order in which it names them.
-#[derive(Debug, Drop)]
+#[derive(Drop)]
 pub struct Results {
     named: Vec<(Name, StructVector)>,
 }

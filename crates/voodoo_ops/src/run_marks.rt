@@ -1,7 +1,8 @@
 //! Where the runs of a vector begin.
 
 ghost use Rattle.std.specs.Prelude.{◌≡◌, ◌||◌, ◌<◌, ℕ, [], length, false, replicate, slice_index_or, IfOk};
-ghost use Rattle.voodoo_ops.specs.Runs.{changes_below, differs, run_marks};
+ghost use Rattle.control_vectors.specs.Runs.{differs};
+ghost use Rattle.voodoo_ops.specs.Runs.{changes_below, run_marks};
 ghost use Rattle.programs.specs.Vectors.{seen, seen_attributes};
 
 use crate::NoMemory;

@@ -9,10 +9,11 @@ ghost use Rattle.voodoo_ops.specs.Slotwise.{paired, shifted};
 use crate::made::Made;
 use crate::reading::operand;
 use crate::single::named_if_made;
+use control_vectors::PairKind;
 use key_paths::Path;
 use programs::{Operand, PairArgs};
 use slot_columns::Stop;
-use slot_wise::{PairKind, common_len, pairs, shifts};
+use slot_wise::{common_len, pairs, shifts};
 use std::alloc::Global;
 use struct_vectors::StructVector;
 

@@ -4,7 +4,8 @@ use Rattle.std.proofs.lemmas.List.{take_all}
 use Rattle.programs.specs.Mentions.{Label}
 use Rattle.programs.specs.Vectors.{Attribute, seen_attributes}
 use Rattle.voodoo_ops.specs.Attributes.{below}
-use Rattle.voodoo_ops.specs.Runs.{differs, changes_below}
+use Rattle.control_vectors.specs.Runs.{differs}
+use Rattle.voodoo_ops.specs.Runs.{changes_below}
 use Rattle.voodoo_ops.proofs.RunMarks.{marks_are}
 use Rattle.voodoo_ops.proofs.RunMarks.{changes_more, length_seen, length_paths}
 use Rattle.voodoo_ops.proofs.run_marks.mark_runs.Goals as goal

@@ -2,7 +2,7 @@ use Rattle.std.proofs.Common.{◌≡◌, ℕ, ◌<◌, true, false, length, take
 use Rattle.std.specs.List.{list_any}
 use Rattle.programs.specs.Vectors.{seen_attributes}
 use Rattle.voodoo_ops.specs.Attributes.{below}
-use Rattle.voodoo_ops.specs.Runs.{differs}
+use Rattle.control_vectors.specs.Runs.{differs}
 use Rattle.voodoo_ops.proofs.run_marks.mark_runs.Given as goal
 
 abbrev pub invariant-loop-k : goal.invariant-loop-k

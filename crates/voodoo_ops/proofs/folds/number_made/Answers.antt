@@ -7,7 +7,7 @@ use Rattle.voodoo_ops.specs.Runs.{run_marks}
 use Rattle.voodoo_ops.proofs.Lengths.{folded_long}
 use Rattle.voodoo_ops.proofs.Marked.{as_many, over_runs, same_count, value_count}
 use Rattle.voodoo_ops.proofs.Seen.{cells_long}
-use Rattle.voodoo_ops.proofs.folds.fold_made.Goals as goal
+use Rattle.voodoo_ops.proofs.folds.number_made.Goals as goal
 
 pub fold_runs-requires : goal.fold_runs-requires
 fold_runs-requires c =
