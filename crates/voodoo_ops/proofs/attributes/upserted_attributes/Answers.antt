@@ -19,6 +19,6 @@ returns-clause-upserted c =
     let place = c.count_before-place.ensures ∙ ap (λ (l : Attributes). prefix_len (λ t. is_before t.0 p) l) (c.as_slice.ensures.value ∙ c.in_ok-attributes.ensures) in
     c.in_ok-insert.ensures.items
     ∙ ap (λ (l : Attributes). insert l c.count_before-place.result (c.in_ok-path.path, column)) c.in_ok-attributes.ensures
-    ∙ ap (λ (x : Label). insert others c.count_before-place.result (x, column)) c.in_ok-path.ensures
+    ∙ ap (λ (x : Label). insert others c.count_before-place.result (x, column)) c.in_ok-path.ensures.text
     ∙ ap (λ (k : ℕ). insert others k (p, column)) place
     ∙ sym (entered_one earlier (p, column) others)

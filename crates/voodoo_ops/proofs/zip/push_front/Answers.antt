@@ -11,5 +11,5 @@ front-requires c =
 pub returns : goal.returns
 returns c =
     c.in_ok-push.ensures.items
-    ∙ ap (λ (p : Label). c.args.attributes.now.items ++ (p, c.in_ok-column.column) ∷ []) c.in_ok-path.ensures
+    ∙ ap (λ (p : Label). c.args.attributes.now.items ++ (p, c.in_ok-column.column) ∷ []) c.in_ok-path.ensures.text
     ∙ ap (λ (t : Label × ColumnValue). c.args.attributes.now.items ++ t ∷ []) (front_at c.args.len c.args.v.now.attributes c.args.i c.index-paths-i.result c.index-columns-i.result c.in_ok-column.column c.requires.within (rw c.paths.ensures.paths at c.index-paths-i.is) (rw c.columns.ensures.columns at c.index-columns-i.is) c.in_ok-column.ensures)
