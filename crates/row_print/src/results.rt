@@ -22,7 +22,7 @@ use struct_vectors::{Column, StructVector};
 use voodoo_ops::Results;
 
 /// Why printing stopped. The sink has gained a prefix of the text.
-#[derive(Clone, Copy, Debug, PartialEq, Eq)]
+#[derive(Clone, Copy)]
 pub enum PrintRefusal {
     /// Writing failed.
     WriteFault,
@@ -91,16 +91,15 @@ pub(crate) fn write_result<O: Sink>(
 fn head_text(alloc: Global, name: &Name, len: u32, paths: &[Path]) -> Result<Vec<u8>, NoMemory>
     ensures { IfOk result (λ text. text.items ≡ rows_text (head_rows name.now len paths.now)) }
 {
-    let mut text = RowText::new(alloc);
+    let text = RowText::new(alloc);
     let mut row = ByteRecord::new(alloc);
     row.push_field(name.text().as_bytes())?;
     row.push_field(Buffer::new().format(len).as_bytes())?;
-    text.push(&row)?;
+    let text = text.push(&row)?;
     row.clear();
     row.push_field(b"slot")?;
     push_paths(paths, &mut row)?;
-    text.push(&row)?;
-    text.into_text()
+    text.push(&row)?.into_text()
 }
 
 /// A field for each path.
@@ -158,7 +157,7 @@ fn piece_text(alloc: Global, columns: &[Column], from: u32, count: u32) -> Resul
     let mut row = ByteRecord::new(alloc);
     for i in from..from + count {
         fill_row(columns, i, &mut row)?;
-        text.push(&row)?;
+        text = text.push(&row)?;
     }
     text.into_text()
 }

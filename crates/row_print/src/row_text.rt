@@ -1,6 +1,6 @@
 //! Rows in the making, as text.
 
-ghost use Rattle.std.specs.Prelude.{◌≡◌, ◌++◌, [], IfOk, OnOk};
+ghost use Rattle.std.specs.Prelude.{◌≡◌, ◌++◌, [], IfOk};
 ghost use Rattle.csv.specs.Records.{fields_of};
 ghost use Rattle.csv.specs.Writing.{default_writer, row_text};
 
@@ -13,12 +13,10 @@ use std::marker::Model;
 #[derive(Drop)]
 pub struct RowText {
     writer: Writer<Vec<u8>>,
-    // No row was left unfinished for want of memory.
-    is_whole: bool,
 }
 
 impl Model for RowText {
-    ghost use Rattle.std.specs.Prelude.{◌≡◌, ◌++◌, ℕ, List, true};
+    ghost use Rattle.std.specs.Prelude.{◌++◌, ℕ, List};
     ghost use Rattle.csv.specs.Writing.{writer_under, writer_pending};
     ghost use Rattle.row_print.specs.Writers.{IsBetweenRows};
 
@@ -26,7 +24,7 @@ impl Model for RowText {
 
     ghost view = { λ r. (writer_under r.writer).items ++ writer_pending r.writer };
 
-    ghost invariant = { λ r. r.is_whole ≡ true → IsBetweenRows r.writer };
+    ghost invariant = { λ r. IsBetweenRows r.writer };
 }
 
 impl RowText {
@@ -37,35 +35,26 @@ impl RowText {
         let writer = WriterBuilder::new()
             .flexible(true)
             .from_writer(Vec::new(alloc));
-        RowText {
-            writer,
-            is_whole: true,
-        }
+        RowText { writer }
     }
 
-    /// Appends a row. A row that memory ran out over stays unfinished, and no row follows it.
-    pub fn push(&mut self, row: &ByteRecord) -> Result<(), NoMemory>
-        ensures { OnOk result (self.new ≡ self.old ++ row_text default_writer (fields_of row.now)) }
+    /// The text with one row more. A row that memory runs out over leaves no text.
+    pub fn push(self, row: &ByteRecord) -> Result<RowText, NoMemory>
+        ensures { IfOk result (λ text. text ≡ self ++ row_text default_writer (fields_of row.now)) }
     {
-        if !self.is_whole {
+        let RowText { mut writer } = self;
+        // Over a vector, and with rows of any length, writing fails for want of memory alone.
+        if writer.write_byte_record(row).is_err() {
             return Err(AllocError);
         }
-        self.is_whole = false;
-        if self.writer.write_byte_record(row).is_err() {
-            return Err(AllocError);
-        }
-        self.is_whole = true;
-        Ok(())
+        Ok(RowText { writer })
     }
 
     /// The text.
     pub fn into_text(self) -> Result<Vec<u8>, NoMemory>
         ensures { IfOk result (λ text. text.items ≡ self) }
     {
-        let RowText {
-            writer,
-            is_whole: _,
-        } = self;
+        let RowText { writer } = self;
         match writer.into_inner() {
             Ok(text) => Ok(text),
             Err(_) => Err(AllocError),

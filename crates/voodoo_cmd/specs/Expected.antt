@@ -4,7 +4,7 @@ use Rattle.std.specs.Option.{option_map}
 use Rattle.control_vectors.specs.Slots.{Slot, numbers}
 use Rattle.io_edge.specs.Shelves.{FileMap}
 use Rattle.row_print.specs.Results.{results_text, rows_text, slot_field}
-use Rattle.query_types.specs.declared.typed.TypedQuery.{TypedQuery}
+use Rattle.typed_trees.specs.declared.typed.TypedQuery.{TypedQuery}
 use Rattle.sql_read.specs.declared.definition.TableDef.{TableDef}
 use Rattle.table_load.specs.Databases.{DatabaseValue}
 use Rattle.typed_values.specs.Sums.{SumAsked, sum_asked}

@@ -8,11 +8,11 @@ use Rattle.sql_read.specs.declared.definition.TableDef.{TableDef}
 use Rattle.sql_read.specs.declared.refusal.SqlRefusal.{SqlRefusal}
 use Rattle.sql_read.specs.declared.refusal.SqlRefusal.TheVariants as text
 use Rattle.sql_read.specs.SchemaText.{schema_of}
-use Rattle.query_read.specs.declared.tree.Query.{Query}
+use Rattle.query_trees.specs.declared.query.Query.{Query}
 use Rattle.query_read.specs.QueryText.{query_of}
 use Rattle.query_types.specs.declared.refusal.TypeRefusal.{TypeRefusal}
 use Rattle.query_types.specs.declared.refusal.TypeRefusal.TheVariants as typing
-use Rattle.query_types.specs.declared.typed.TypedQuery.{TypedQuery}
+use Rattle.typed_trees.specs.declared.typed.TypedQuery.{TypedQuery}
 use Rattle.query_types.specs.Typing.{typed_query}
 use Rattle.sql_types.specs.declared.refusal.SchemaRefusal.{SchemaRefusal}
 use Rattle.sql_types.specs.declared.refusal.SchemaRefusal.TheVariants as catalog

@@ -17,14 +17,16 @@ use control_vectors::Slot;
 use csv::ByteRecord;
 use io_edge::{Name, NoMemory, Shelf};
 use itoa::Buffer;
-use query_read::{Query, read_query};
-use query_types::{TypeRefusal, TypedQuery, type_query};
+use query_read::read_query;
+use query_trees::Query;
+use query_types::{TypeRefusal, type_query};
 use row_print::RowText;
 use sql_read::{SqlRefusal, TableDef};
 use sql_types::Catalog;
 use std::alloc::{AllocError, Global};
 use struct_vectors::Column;
 use table_load::Database;
+use typed_trees::TypedQuery;
 use typed_values::sum_asked;
 use voodoo_ops::RunRefusal;
 use voodoo_ops::sums::column_total;
@@ -161,18 +163,17 @@ fn sum_text(alloc: Global, header: &str, column: Option<&Column>) -> Result<Vec<
     ensures { IfOk result (λ text. text.items ≡ expected.sum_text header.now (slots_seen column.entry)) }
 {
     let total = total_of(alloc, column)?;
-    let mut text = RowText::new(alloc);
-    push_row(alloc, &mut text, header.as_bytes())?;
-    match total {
-        None => push_row(alloc, &mut text, b"")?,
-        Some(x) => push_row(alloc, &mut text, Buffer::new().format(x).as_bytes())?,
-    }
+    let text = push_row(alloc, RowText::new(alloc), header.as_bytes())?;
+    let text = match total {
+        None => push_row(alloc, text, b"")?,
+        Some(x) => push_row(alloc, text, Buffer::new().format(x).as_bytes())?,
+    };
     text.into_text()
 }
 
 /// One more row, of one field.
-fn push_row(alloc: Global, text: &mut RowText, field: &[u8]) -> Result<(), NoMemory>
-    ensures { OnOk result (text.new ≡ text.old ++ row_text default_writer (field.now ∷ [])) }
+fn push_row(alloc: Global, text: RowText, field: &[u8]) -> Result<RowText, NoMemory>
+    ensures { IfOk result (λ t. t ≡ text ++ row_text default_writer (field.now ∷ [])) }
 {
     let mut row = ByteRecord::new(alloc);
     row.push_field(field)?;

@@ -1,6 +1,8 @@
 //! The step that reads the schema.
 
 ghost use Rattle.std.specs.Prelude.{◌≡◌, ◌≤◌, [], IfErr, IfOk, IfSome, length};
+ghost use Rattle.std.specs.List.{All};
+ghost use Rattle.sql_read.specs.Forms.{IsFormed};
 ghost use Rattle.sql_read.specs.SchemaText.{schema_of};
 ghost use Rattle.sql_types.specs.Catalog as spec;
 ghost use Rattle.voodoo_cmd.specs.Inputs.{HasFileCause, IsSchemaRefusal};
@@ -24,6 +26,7 @@ pub(crate) fn read_catalog<S: Shelf>(
     ensures later { S.faults shelf.old ≤ S.faults shelf.new }
     ensures catalog { IfSome (S.holds shelf.old) (λ files. Meets (λ c. c) result (catalog_in files file.now)) }
     ensures clean { IfOk result (λ c. spec.findings c ≡ []) }
+    ensures formed { IfOk result (λ c. All IsFormed c) }
     ensures cause { IfErr result (HasFileCause (S.holds shelf.old) FileRole.Schema file.now (S.faults shelf.old) (S.faults shelf.new)) }
 {
     let bytes = read_file(alloc, shelf, FileRole::Schema, SCHEMA_LIMIT, file)?;
@@ -35,6 +38,7 @@ pub(crate) fn read_catalog<S: Shelf>(
 fn defs_of(alloc: Global, bytes: &[u8]) -> Result<Vec<TableDef>, Status>
     requires { length bytes.now ≤ 65536 }
     ensures defs { Meets (λ v. v.items) result (text_outcome (schema_of bytes.now)) }
+    ensures formed { IfOk result (λ v. All IsFormed v.items) }
     ensures kind { IfErr result IsSchemaRefusal }
 {
     match read_schema(alloc, bytes) {
@@ -49,8 +53,10 @@ fn defs_of(alloc: Global, bytes: &[u8]) -> Result<Vec<TableDef>, Status>
 
 /// The catalog of some definitions.
 fn catalog_of(defs: Vec<TableDef>) -> Result<Catalog, Status>
+    requires formed { All IsFormed defs.items }
     ensures catalog { Meets (λ c. c) result (catalog_outcome (spec.catalog_of defs.items)) }
     ensures clean { IfOk result (λ c. spec.findings c ≡ []) }
+    ensures formed { IfOk result (λ c. All IsFormed c) }
     ensures kind { IfErr result IsSchemaRefusal }
 {
     match Catalog::new(defs) {

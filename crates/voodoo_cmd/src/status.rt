@@ -12,14 +12,14 @@ use table_load::DataKind;
 use voodoo_text::TextKind;
 
 /// What is wrong with the words of the command line.
-#[derive(Clone, Copy, Debug, PartialEq, Eq)]
+#[derive(Clone, Copy)]
 pub enum UsageKind {
     /// They are not the words of a command.
     Words,
 }
 
 /// A file by what it is to the run.
-#[derive(Clone, Copy, Debug, PartialEq, Eq)]
+#[derive(Clone, Copy)]
 pub enum FileRole {
     Schema,
     /// The file of a table. Tables count from 1, in the schema's order.
@@ -29,28 +29,28 @@ pub enum FileRole {
 }
 
 /// Why a schema is refused: by its text, or by its catalog.
-#[derive(Clone, Copy, Debug, PartialEq, Eq)]
+#[derive(Clone, Copy)]
 pub enum SchemaCause {
     Text(SqlKind),
     Catalog(SchemaKind),
 }
 
 /// Why a query is refused: by its text, or by what its names mean.
-#[derive(Clone, Copy, Debug, PartialEq, Eq)]
+#[derive(Clone, Copy)]
 pub enum QueryCause {
     Text(SqlKind),
     Typing(TypeKind),
 }
 
 /// Why a program of the algebra is refused: by its text, or by its check.
-#[derive(Clone, Copy, Debug, PartialEq, Eq)]
+#[derive(Clone, Copy)]
 pub enum AlgebraCause {
     Text(TextKind),
     Program(ProgramKind),
 }
 
 /// What a limit is on.
-#[derive(Clone, Copy, Debug, PartialEq, Eq)]
+#[derive(Clone, Copy)]
 pub enum LimitWhat {
     /// The slots of a vector.
     Slots,
@@ -59,7 +59,7 @@ pub enum LimitWhat {
 }
 
 /// How a run ended. Each status has an exit status and, but for `Done`, one line on standard error.
-#[derive(Clone, Copy, Debug, PartialEq, Eq)]
+#[derive(Clone, Copy)]
 pub enum Status {
     /// The whole answer was written.
     Done,

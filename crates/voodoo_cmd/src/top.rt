@@ -44,7 +44,7 @@ enum Answer {
 /// `out` has gained exactly the expected text; or it is the expected refusal, and `out` has gained
 /// nothing. In their place may come a read fault, a write fault or `NoMemory`, the faults only where
 /// the object's count of faults rose, or where the shelf tells that it lacks the file. `out` has
-/// then gained a prefix of the text, and nothing after a read fault.
+/// then gained a prefix of the text, and nothing after a read fault. No count of faults falls.
 pub fn run<S: Shelf, O: Sink, E: Sink>(
     alloc: Global,
     words: &[Name],
@@ -63,6 +63,9 @@ pub fn run<S: Shelf, O: Sink, E: Sink>(
     // What stands after it.
     ensures untouched { MayHaveWritten result ⊎ Keeps (O.written out.old) (O.written out.new) }
     ensures same_files { S.holds shelf.new ≡ S.holds shelf.old }
+    ensures reads_later { S.faults shelf.old ≤ S.faults shelf.new }
+    ensures writes_later { O.faults out.old ≤ O.faults out.new }
+    ensures lines_later { E.faults err.old ≤ E.faults err.new }
     ensures line { AppendsPrefix (E.written err.old) (E.written err.new) (status_line result) }
     ensures whole_line { Rose (E.faults err.old) (E.faults err.new)
         ⊎ Appends (E.written err.old) (E.written err.new) (status_line result) }
@@ -82,6 +85,7 @@ fn read_answer<S: Shelf>(alloc: Global, words: &[Name], shelf: &mut S) -> Result
     ensures refuses { IfErr result IsRefusal }
     ensures cause { IfErr result (ReadFaultHasCause words.now (S.holds shelf.old) (S.faults shelf.old) (S.faults shelf.new)) }
     ensures same_files { S.holds shelf.new ≡ S.holds shelf.old }
+    ensures later { S.faults shelf.old ≤ S.faults shelf.new }
 {
     let Some(request) = request_of(words) else {
         return Err(Status::Usage(UsageKind::Words));
@@ -131,6 +135,7 @@ fn read_database<S: Shelf>(alloc: Global, shelf: &mut S, schema: &str) -> Result
 fn written<O: Sink>(alloc: Global, out: &mut O, given: &Answer) -> Status
     ensures writes { Writes (text_given given.now) result (O.written out.old) (O.written out.new) }
     ensures cause { result ≡ Status.WriteFault → Rose (O.faults out.old) (O.faults out.new) }
+    ensures later { O.faults out.old ≤ O.faults out.new }
 {
     match given {
         Answer::Rows(text) => match write_all(out, text.as_slice()) {

@@ -6,7 +6,7 @@ ghost use Rattle.voodoo_cmd.specs.Words as spec;
 use io_edge::Name;
 
 /// What the text is.
-#[derive(Clone, Copy, Debug, PartialEq, Eq)]
+#[derive(Clone, Copy)]
 pub(crate) enum Mode {
     /// A query.
     Sql,
@@ -15,7 +15,7 @@ pub(crate) enum Mode {
 }
 
 /// What is asked: in which mode, and the names of the schema's file and the text's.
-#[derive(Clone, Copy, Debug)]
+#[derive(Clone, Copy)]
 pub(crate) struct Request<'a> {
     pub(crate) mode: Mode,
     pub(crate) schema: &'a str,

@@ -5,7 +5,7 @@ use Rattle.row_print.proofs.row_text.RowText.push.Goals as goal
 
 pub returns : goal.returns
 returns c =
-    let ready = c.self.invariant c.if-not-self.false in
+    let ready = c.self.invariant in
     let ok = sym c.is_err.ensures.value ∙ c.if-is_err.false in
     let text = on-ok c.write_byte_record.result _ ok c.write_byte_record.ensures.bytes ready.fields ready.wrote (rw ready.setup not-numeric) in
     rw (ready.setup, row-same (fields_of c.args.row.now), c.self.view_is) at text
