@@ -18,7 +18,7 @@ use Rattle.voodoo_cmd.specs.declared.status.FileRole.TheVariants.{Schema, Table,
 use Rattle.voodoo_cmd.specs.declared.status.Status.TheVariants.{ReadFault, NotYet}
 use Rattle.voodoo_cmd.specs.Outcomes.{Outcome, or_refuse, ◌>>=◌}
 use Rattle.voodoo_cmd.specs.Paths.{table_file}
-use Rattle.voodoo_cmd.specs.Steps.{request_in, catalog_in, tables_from, database_in, query_in, names_at, column_slots, program_in, results_outcome}
+use Rattle.voodoo_cmd.specs.Steps.{request_in, catalog_in, tables_from, database_in, query_in, asked_slots, program_in, results_outcome}
 
 -- ---- the answer
 
@@ -27,11 +27,11 @@ abbrev pub sum_text : List ℕ → List Slot → List ℕ
 sum_text header slots = rows_text ((header ∷ []) ∷ (slot_field (total_slot (numbers slots)) ∷ []) ∷ [])
 
 -- the answer to the one question
-abbrev pub asked_text : DatabaseValue → SumAsked → Outcome (List ℕ)
-asked_text db a = or_refuse (NotYet Text) (names_at db.defs a.table a.column) >>= λ names. Ok (sum_text a.name (column_slots db names))
+abbrev pub asked_text : DatabaseValue → SumAsked → List ℕ
+asked_text db a = sum_text a.name (asked_slots db a.table a.column)
 
 abbrev pub query_text : DatabaseValue → TypedQuery → Outcome (List ℕ)
-query_text db query = or_refuse (NotYet Text) (sum_asked query) >>= asked_text db
+query_text db query = or_refuse (NotYet Text) (sum_asked query) >>= λ a. Ok (asked_text db a)
 
 abbrev pub query_answer : FileMap → List ℕ → DatabaseValue → Outcome (List ℕ)
 query_answer files text db = query_in files text db.defs >>= query_text db

@@ -120,6 +120,14 @@ names_at defs table column = names_in column (slice_get defs table)
 abbrev pub column_slots : DatabaseValue → Names → List Slot
 column_slots db names = slots_of (known (tables db.store names.0)).attributes (46 ∷ names.1)
 
+abbrev pub slots_named : DatabaseValue → Option Names → List Slot
+slots_named db None = []
+slots_named db (Some names) = column_slots db names
+
+-- the slots of the column at these places, of which a column that is not defined has none
+abbrev pub asked_slots : DatabaseValue → ℕ → ℕ → List Slot
+asked_slots db table column = slots_named db (names_at db.defs table column)
+
 -- ---- the program's file gives its statements, each with its line, or the first refusal of its text
 abbrev pub read_outcome : Result ReadProgram TextRefusal → Outcome ReadProgram
 read_outcome (Ok r) = Ok r

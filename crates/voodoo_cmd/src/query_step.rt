@@ -106,8 +106,8 @@ fn answered(alloc: Global, query: TypedQuery, db: &Database) -> Result<Vec<u8>, 
     query_text(alloc, &query, db)
 }
 
-/// The answer to a query, where it asks for the sum of a column. A column that is not kept has no
-/// slots.
+/// The answer to a query, where it asks for the sum of a column. A column that is not defined or not
+/// kept has no slots.
 fn query_text(alloc: Global, query: &TypedQuery, db: &Database) -> Result<Vec<u8>, Status>
     requires narrow { IsNarrowStore db.now.store }
     ensures text { Meets (λ v. v.items) result (expected.query_text db.now query.now) }
@@ -116,11 +116,25 @@ fn query_text(alloc: Global, query: &TypedQuery, db: &Database) -> Result<Vec<u8
     let Some(asked) = sum_asked(query) else {
         return Err(Status::NotYet(FileRole::Text));
     };
-    let Some((table, column)) = names_at(db.defs(), asked.table, asked.column) else {
-        return Err(Status::NotYet(FileRole::Text));
-    };
-    let column = kept_column(alloc, db, table, column.text())?;
+    let column = asked_column(alloc, db, asked.table, asked.column)?;
     Ok(sum_text(alloc, asked.name.text(), column)?)
+}
+
+/// The column at these places, where it is defined and kept.
+fn asked_column(
+    alloc: Global,
+    db: &Database,
+    table: u32,
+    column: u32,
+) -> Result<Option<&Column>, NoMemory>
+    requires narrow { IsNarrowStore db.now.store }
+    ensures slots { IfOk result (λ c. slots_seen c ≡ spec.asked_slots db.now table column) }
+    ensures narrow { IfOk result IsNarrowIfAny }
+{
+    match names_at(db.defs(), table, column) {
+        None => Ok(None),
+        Some((table, column)) => kept_column(alloc, db, table, column.text()),
+    }
 }
 
 /// The names of a table and of its column, by their places.
