@@ -6,6 +6,7 @@ pub mod FieldLaws
 pub mod TextLaws
 pub mod ColumnLaws
 pub mod LoadLaws
+pub mod RuleLaws
 pub mod DictionaryFacts
 pub mod VectorFacts
 pub mod StoreFacts

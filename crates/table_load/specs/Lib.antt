@@ -2,6 +2,7 @@ pub mod Records
 pub mod Fields
 pub mod Values
 pub mod Tables
+pub mod Rules
 pub mod Databases
 pub mod Held
 pub mod Reading

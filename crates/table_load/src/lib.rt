@@ -9,6 +9,7 @@ mod fields;
 mod header;
 mod integers;
 mod keys;
+pub mod laws;
 mod loading;
 mod raw;
 mod reading;

@@ -1,0 +1,8 @@
+//! The laws of tables, each stated once, as a contract.
+
+ghost use Rattle.table_load.specs.Rules.{TableRule};
+
+/// The records behind a header make rows, each by its own fields and the keys of the rows before it; or the first that is refused decides.
+pub fn table_rule()
+    ensures { TableRule }
+{}
