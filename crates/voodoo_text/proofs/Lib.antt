@@ -13,5 +13,6 @@ pub mod TokenRules
 pub mod LineRules
 pub mod WholeLines
 pub mod FirstRefusals
+pub mod OrderAlone
 pub mod LineLaws
 pub mod Examples

@@ -16,6 +16,7 @@ use Rattle.voodoo_text.specs.PlaceGrammar.{Asked, ranges, order_alone}
 use Rattle.voodoo_text.specs.Grammar.{line}
 use Rattle.voodoo_text.specs.GrammarLaws.{Why, IsFirstRefusal, IsLineRefusal, LineLaws}
 use Rattle.voodoo_text.proofs.OneToken.{Says}
+use Rattle.voodoo_text.proofs.OrderAlone.{zeros_spell, zeros_spelled}
 use Rattle.voodoo_text.proofs.FirstRefusals.{spells, one_refusal}
 use Rattle.voodoo_text.proofs.WholeLines.{every, closing, whole, rule_whole}
 
@@ -145,4 +146,5 @@ line_laws = record {
   first = first;
   never_both = λ ts e s h l. let r = read_as ts (Some s) l in absurd (cc);
   one = one;
+  order = λ ts. (zeros_spell ts, zeros_spelled ts);
 }

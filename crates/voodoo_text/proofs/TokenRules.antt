@@ -39,7 +39,7 @@ or_fault fault None = Err fault
 abbrev pub of_kind : {A : Type 0} → Kind → TextKind → (Bytes → Option A) → Answer A
 of_kind kind fault value t = cond (is kind t) (or_fault fault (value t.word)) (Err (fault_of t.kind))
 
-is_own : (kind : Kind) → same_kind kind kind ≡ true
+pub is_own : (kind : Kind) → same_kind kind kind ≡ true
 unfolding same_kind
 is_own kind = true_same the_type kind kind refl
 

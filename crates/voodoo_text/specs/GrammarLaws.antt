@@ -1,5 +1,5 @@
 -- A line is read as the statement that the grammar gives its tokens, or refused at the first token that cannot stand.
-use Rattle.std.specs.Prelude.{◌≡◌, ℕ, List, [], ◌∷◌, ◌++◌, length, Option, Some, None, Ok, Err}
+use Rattle.std.specs.Prelude.{◌≡◌, ℕ, List, [], ◌∷◌, ◌++◌, ◌↔◌, if◌then◌else◌, length, map, Option, Some, None, Ok, Err}
 use Rattle.phrases.specs.declared.refusal.ReadError.{ReadError}
 use Rattle.phrases.specs.declared.refusal.ReadError.TheVariants.{Refused, NoMemory}
 use Rattle.phrases.specs.Promise.{Begins, EndsNone, GoesOn}
@@ -8,10 +8,19 @@ use Rattle.voodoo_text.specs.declared.kind.Kind.{Kind}
 use Rattle.voodoo_text.specs.declared.kind.Kind.TheVariants as k
 use Rattle.voodoo_text.specs.declared.refusal.TextKind.{TextKind}
 use Rattle.voodoo_text.specs.declared.refusal.TextKind.TheVariants.{NotText, BadToken, Unexpected, BadNumber, NotAdmissible}
-use Rattle.voodoo_text.specs.Tokens.{Token}
+use Rattle.voodoo_text.specs.Kinds.{same_kind}
+use Rattle.voodoo_text.specs.Tokens.{Token, token}
 use Rattle.voodoo_text.specs.Statements.{line_of}
 use Rattle.voodoo_text.specs.PlaceGrammar.{Asked, ranges, order_alone}
 use Rattle.voodoo_text.specs.Grammar.{line}
+
+-- a number as 0, any other token as it is
+abbrev pub zeroed : Token → Token
+zeroed t = if same_kind t.kind k.Number then token k.Number (48 ∷ []) else t
+
+-- the tokens spell a line: a statement, or none
+abbrev pub SpellsLine : Asked → List Token → Type 0
+SpellsLine m ts = (x : Option Statement) × line m ts x
 
 -- the next token is of this kind
 abbrev pub NextIs : Kind → List Token → Type 0
@@ -54,3 +63,6 @@ pub record LineLaws : Type 0 where
   pub never_both : (ts : List Token) (e : ReadError TextKind) (s : Statement) → line_of ts ≡ Err e → line ranges ts (Some s) → ⊥
   -- a line spells one thing, also where ranges are not asked
   pub one : (m : Asked) (ts : List Token) (s t : Option Statement) → line m ts s → line m ts t → s ≡ t
+  -- where ranges are not asked, the tokens spell a line exactly where they do with 0 for each number: it is no matter what stands for a
+  -- number that its place does not hold
+  pub order : (ts : List Token) → SpellsLine order_alone ts ↔ SpellsLine ranges (map zeroed ts)
