@@ -14,7 +14,7 @@ use crate::places::{
     next_path, next_shift, next_size, operand, refused, size,
 };
 use crate::refusal::TextKind;
-use io_edge::Name;
+use crate::{NoMemory, values};
 use phrases::ReadError;
 use programs::{FoldArgs, Op, PairArgs, RankArgs, Statement};
 use std::alloc::Global;
@@ -301,15 +301,21 @@ fn operator(line: &mut Line) -> Result<Operator, ReadError<TextKind>>
 }
 
 /// The statement that gives a name to what an operator makes.
-fn made(target: Name, op: Option<Op>) -> Option<Statement>
-    requires target { IsName target }
+fn named(alloc: Global, word: &[u8], op: Option<Op>) -> Result<Option<Statement>, NoMemory>
+    requires word { IsName word.now }
     requires names { IfSome op OpHasNames }
-    ensures value { result ≡ option_map (spec.statement target) op }
-    ensures names { IfSome result StatementHasNames }
+    ensures value { IfOk result (λ made. made ≡ option_map (spec.statement word.now) op) }
+    ensures names { IfOk result (λ made. IfSome made StatementHasNames) }
 {
-    match op {
-        Some(op) => Some(Statement { name: target, op }),
-        None => None,
+    let Some(op) = op else {
+        return Ok(None);
+    };
+    match values::name(alloc, word) {
+        Ok(name) => Ok(Some(Statement { name, op })),
+        Err(error) => {
+            drop(op);
+            Err(error)
+        }
     }
 }
 
@@ -318,10 +324,10 @@ fn made(target: Name, op: Option<Op>) -> Option<Statement>
 fn assigned(
     alloc: Global,
     line: &mut Line,
-    target: Name,
+    word: &[u8],
 ) -> Result<Option<Statement>, ReadError<TextKind>>
-    requires { IsName target }
-    ensures value { Reads (spec.assigned target line.old) result line.new }
+    requires { IsName word.now }
+    ensures value { Reads (spec.assigned word.now line.old) result line.new }
     ensures names { IfOk result (λ made. IfSome made StatementHasNames) }
 {
     expect(line, Kind::Equal)?;
@@ -329,7 +335,7 @@ fn assigned(
     expect(line, Kind::Open)?;
     let op = arguments(alloc, line, operator)?;
     match expect(line, Kind::Close) {
-        Ok(_close) => Ok(made(target, op)),
+        Ok(_close) => Ok(named(alloc, word, op)?),
         Err(error) => {
             drop(op);
             Err(error)
@@ -352,10 +358,10 @@ fn persisted(alloc: Global, line: &mut Line) -> Result<Option<Statement>, ReadEr
 }
 
 /// Whether a Persist begins: its word, and then a parenthesis.
-fn begins_persist(word: &Name, line: &Line) -> bool
+fn begins_persist(word: &[u8], line: &Line) -> bool
     ensures { result ≡ spec.begins_persist word.now line.now }
 {
-    if word.text().as_bytes() == b"Persist".as_slice() {
+    if word == b"Persist".as_slice() {
         line.is_next(Kind::Open)
     } else {
         false
@@ -367,13 +373,13 @@ fn begins_persist(word: &Name, line: &Line) -> bool
 fn after_word(
     alloc: Global,
     line: &mut Line,
-    word: Name,
+    word: &[u8],
 ) -> Result<Option<Statement>, ReadError<TextKind>>
-    requires { IsName word }
-    ensures value { Reads (spec.after_word word line.old) result line.new }
+    requires { IsName word.now }
+    ensures value { Reads (spec.after_word word.now line.old) result line.new }
     ensures names { IfOk result (λ made. IfSome made StatementHasNames) }
 {
-    if begins_persist(&word, line) {
+    if begins_persist(word, line) {
         persisted(alloc, line)
     } else {
         assigned(alloc, line, word)
@@ -386,7 +392,7 @@ fn statement(alloc: Global, line: &mut Line) -> Result<Option<Statement>, ReadEr
     ensures value { Reads (spec.statement_of line.old) result line.new }
     ensures names { IfOk result (λ made. IfSome made StatementHasNames) }
 {
-    let word = name(alloc, line)?;
+    let word = expect(line, Kind::Name)?;
     after_word(alloc, line, word)
 }
 
