@@ -4,7 +4,7 @@ use Rattle.std.specs.Prelude.{Option, None}
 use Rattle.std.proofs.lemmas.Bool.{cases_order}
 use Rattle.phrases.specs.declared.refusal.ReadError.TheVariants.{Refused}
 use Rattle.phrases.specs.Promise.{Begins, EndsNone, GoesOn}
-use Rattle.phrases.proofs.Easing.{front_goes_on, same_cut}
+use Rattle.phrases.proofs.Cuts.{front_goes_on, same_cut}
 use Rattle.programs.specs.declared.op.Statement.{Statement}
 use Rattle.voodoo_text.specs.declared.kind.Kind.TheVariants as k
 use Rattle.voodoo_text.specs.declared.refusal.TextKind.{TextKind}

@@ -5,7 +5,8 @@ use Rattle.phrases.specs.declared.refusal.ReadError.{ReadError}
 use Rattle.phrases.specs.declared.refusal.ReadError.TheVariants.{NoMemory, Refused}
 use Rattle.phrases.specs.Parsers.{Outcome, and_then, ended}
 use Rattle.phrases.proofs.Good.{free}
-use Rattle.phrases.proofs.Easing.{Whole, Still, same_cut, read_sound, read_complete, no_text, read_refuses, goes_on, still_refused}
+use Rattle.phrases.proofs.Cuts.{same_cut}
+use Rattle.phrases.proofs.Easing.{Whole, Still, read_sound, read_complete, no_text, read_refuses, goes_on, still_refused}
 use Rattle.programs.specs.declared.op.Statement.{Statement}
 use Rattle.voodoo_text.specs.declared.refusal.TextKind.{TextKind}
 use Rattle.voodoo_text.specs.declared.refusal.TextKind.TheVariants.{NotText, BadToken, Unexpected, BadNumber, NotAdmissible}
