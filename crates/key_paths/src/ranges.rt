@@ -6,7 +6,7 @@ ghost use Rattle.key_paths.specs.Substructures.{is_at_or_below, is_before, IsAsc
 use crate::Path;
 
 /// A stretch of a list of paths: the places from `from` up to but not including `to`.
-#[derive(Clone, Copy, Debug, PartialEq, Eq)]
+#[derive(Clone, Copy)]
 pub struct PathRange {
     pub from: u32,
     pub to: u32,

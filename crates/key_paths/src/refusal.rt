@@ -6,7 +6,7 @@ use std::alloc::AllocError;
 use thiserror::Error;
 
 /// What is wrong at a byte of a text that is no path.
-#[derive(Clone, Copy, Debug, PartialEq, Eq, Error)]
+#[derive(Clone, Copy, Debug, Error)]
 pub enum PathKind {
     /// The text does not begin with a dot.
     #[error("a path begins with a dot")]

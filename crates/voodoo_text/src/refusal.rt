@@ -25,7 +25,7 @@ pub enum TextKind {
 }
 
 /// Why `read_program` read no program.
-#[derive(Clone, Copy, Debug, PartialEq, Eq, Drop, Error)]
+#[derive(Clone, Copy, Debug, Drop, Error)]
 pub enum TextRefusal {
     /// The first line that is refused, counted from 1, and the first thing that is wrong with it.
     #[error("line {line}: {kind}")]
