@@ -213,15 +213,15 @@ fits_over stop a = after k.Slash (λ t. Both g.divisor (λ v. nothing (divided t
 
 -- ---- an operator and its right side
 
-pub fits_joined : (kind : Kind) (o : BinaryOp) (L : Phrase Token Expr) (q : Parser Expr) (stop : Token → Bool) → FitsQ L stop q → Some L → (a : Expr) → FitsQ (g.joined kind o L a) stop (r.joined kind o q a)
-unfolding r.joined
-fits_joined kind o L q stop good some a = after kind (λ t. Both L (λ b. nothing (binary o t.at a b))) _ stop
+pub fits_operation : (kind : Kind) (o : BinaryOp) (L : Phrase Token Expr) (q : Parser Expr) (stop : Token → Bool) → FitsQ L stop q → Some L → (a : Expr) → FitsQ (g.operation kind o L a) stop (r.operation kind o q a)
+unfolding r.operation
+fits_operation kind o L q stop good some a = after kind (λ t. Both L (λ b. nothing (binary o t.at a b))) _ stop
     (λ t. good_map L q stop good (λ b. binary o t.at a b))
     (λ t. some_both L (λ b. nothing (binary o t.at a b)) some (λ b. some_nothing (binary o t.at a b)))
 
-pub turn_joined : (kind : Kind) (o : BinaryOp) (L : Phrase Token Expr) (q : Parser Expr) (h : Kind → Bool) → h kind ≡ false → FitsQ L (of h) q → Some L → Turns gap (g.joined kind o L) (of h) (is kind) (r.joined kind o q)
-turn_joined kind o L q h apart good some = record {
-  good = fits_joined kind o L q (of h) good some;
+pub turn_operation : (kind : Kind) (o : BinaryOp) (L : Phrase Token Expr) (q : Parser Expr) (h : Kind → Bool) → h kind ≡ false → FitsQ L (of h) q → Some L → Turns gap (g.operation kind o L) (of h) (is kind) (r.operation kind o q)
+turn_operation kind o L q h apart good some = record {
+  good = fits_operation kind o L q (of h) good some;
   begins = λ a xs rest b l. starts_word kind (λ t. Both L (λ b. nothing (binary o t.at a b))) xs rest b l;
   apart = λ t e. of_kind h kind t e ∙ apart;
 }

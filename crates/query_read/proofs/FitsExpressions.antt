@@ -32,7 +32,7 @@ use Rattle.query_read.specs.Expressions.{Depth}
 use Rattle.query_read.specs.ExpressionParsers as r
 use Rattle.query_read.specs.ExpressionParsers.{Parser, Under, expect, expect_of, opening}
 use Rattle.query_read.proofs.TokenKinds.{gap, FitsQ, signs_are, multiplies_are, ranges_are, compares_are, aggregates_are, some_word, word_map, some_map, after, after_of, starts_word, starts_in, starts_of, quiet_word, avoids_word, argument, some_argument, shut_opening}
-use Rattle.query_read.proofs.FitsAtoms.{column_stops, fits_series, series_stops, some_series, fits_column, starts_column, fits_date, starts_date, fits_over, turn_joined}
+use Rattle.query_read.proofs.FitsAtoms.{column_stops, fits_series, series_stops, some_series, fits_column, starts_column, fits_date, starts_date, fits_over, turn_operation}
 
 -- ---- what goes on with a rule
 
@@ -416,24 +416,24 @@ module _ (m : Asked) (text : Bytes) (d : Depth) (u : Under) (v : Level d u) wher
 
   fits_conj : FitsQ (g.conj m text d) (of conj_stops) (r.conj m text u)
   unfolding r.conj same_kind
-  fits_conj = good_list (g.neg m text d) (r.neg m text u) (of pred_stops) (g.joined k.And op.And (g.neg m text d)) (is k.And) (r.joined k.And op.And (r.neg m text u)) (λ a. a) fits_neg
-      (turn_joined k.And op.And (g.neg m text d) (r.neg m text u) pred_stops refl fits_neg some_neg)
+  fits_conj = good_list (g.neg m text d) (r.neg m text u) (of pred_stops) (g.operation k.And op.And (g.neg m text d)) (is k.And) (r.operation k.And op.And (r.neg m text u)) (λ a. a) fits_neg
+      (turn_operation k.And op.And (g.neg m text d) (r.neg m text u) pred_stops refl fits_neg some_neg)
 
   some_conj : Some (g.conj m text d)
-  some_conj = some_both (g.neg m text d) (Repeated (g.joined k.And op.And (g.neg m text d))) some_neg (some_repeated (g.joined k.And op.And (g.neg m text d)))
+  some_conj = some_both (g.neg m text d) (Repeated (g.operation k.And op.And (g.neg m text d))) some_neg (some_repeated (g.operation k.And op.And (g.neg m text d)))
 
   pub fits_expr_at : FitsQ (g.expr m text d) (of expr_stops) (r.expr m text u)
   unfolding r.expr same_kind
-  fits_expr_at = good_list (g.conj m text d) (r.conj m text u) (of conj_stops) (g.joined k.Or op.Or (g.conj m text d)) (is k.Or) (r.joined k.Or op.Or (r.conj m text u)) (λ a. a) fits_conj
-      (turn_joined k.Or op.Or (g.conj m text d) (r.conj m text u) conj_stops refl fits_conj some_conj)
+  fits_expr_at = good_list (g.conj m text d) (r.conj m text u) (of conj_stops) (g.operation k.Or op.Or (g.conj m text d)) (is k.Or) (r.operation k.Or op.Or (r.conj m text u)) (λ a. a) fits_conj
+      (turn_operation k.Or op.Or (g.conj m text d) (r.conj m text u) conj_stops refl fits_conj some_conj)
 
   pub some_expr_at : Some (g.expr m text d)
-  some_expr_at = some_both (g.conj m text d) (Repeated (g.joined k.Or op.Or (g.conj m text d))) some_conj (some_repeated (g.joined k.Or op.Or (g.conj m text d)))
+  some_expr_at = some_both (g.conj m text d) (Repeated (g.operation k.Or op.Or (g.conj m text d))) some_conj (some_repeated (g.operation k.Or op.Or (g.conj m text d)))
 
   pub avoids_expr_at : (h : Kind → Bool) → h k.Not ≡ false → h k.Plus ≡ false → h k.Minus ≡ false → h k.Digits ≡ false → h k.Quoted ≡ false → h k.Date ≡ false → h k.Name ≡ false → h k.Count ≡ false → h k.Sum ≡ false → h k.Min ≡ false → h k.Max ≡ false → h k.Avg ≡ false → h k.OpenParen ≡ false → Avoids (of h) (g.expr m text d)
   avoids_expr_at h w x z y q o n j a b c e i =
-      avoids_both (of h) (g.conj m text d) (Repeated (g.joined k.Or op.Or (g.conj m text d)))
-      (avoids_both (of h) (g.neg m text d) (Repeated (g.joined k.And op.And (g.neg m text d)))
+      avoids_both (of h) (g.conj m text d) (Repeated (g.operation k.Or op.Or (g.conj m text d)))
+      (avoids_both (of h) (g.neg m text d) (Repeated (g.operation k.And op.And (g.neg m text d)))
       (avoids_either (of h) d.nots (g.pred m text d)
       (avoids_starts (is k.Not) (of h) d.nots (λ t u. of_kind h k.Not t u ∙ w) v.nots_start)
       (avoids_both (of h) (g.sum m text d) (g.test m text d) (avoids_sum h (avoids_factor h x z (avoids_atom h y q o n j a b c e i))))))

@@ -121,9 +121,9 @@ module _ (deep : Fault) (other : Unexpected ≡ deep → ⊥) where
   unfolding r.over r.divisor
   rel_over a = after k.Slash _ _ (λ t. rel_map deep r.divisor r.divisor _ (rel_either deep (of signs) _ _ _ _ (after_of signs _ _ (λ s. after k.Digits _ _ (λ n. ends _))) (after k.Digits _ _ (λ n. ends _))))
 
-  rel_joined : (kind : Kind) (o : BinaryOp) (q s : Parser Expr) → Rel deep q s → (a : Expr) → Rel deep (r.joined kind o q a) (r.joined kind o s a)
-  unfolding r.joined
-  rel_joined kind o q s h a = after kind _ _ (λ t. rel_map deep q s _ h)
+  rel_operation : (kind : Kind) (o : BinaryOp) (q s : Parser Expr) → Rel deep q s → (a : Expr) → Rel deep (r.operation kind o q a) (r.operation kind o s a)
+  unfolding r.operation
+  rel_operation kind o q s h a = after kind _ _ (λ t. rel_map deep q s _ h)
 
   pub rel_star : Rel deep r.star r.star
   unfolding r.star
@@ -213,11 +213,11 @@ module _ (deep : Fault) (m n : Asked) (e : Eases deep m n) (text : Bytes) where
 
     rel_conj : Rel deep (r.conj m text u) (r.conj n text v)
     unfolding r.conj
-    rel_conj = rel_bind deep (r.neg m text u) (r.neg n text v) _ _ rel_neg (rel_repeat deep (is k.And) (r.joined k.And op.And (r.neg m text u)) (r.joined k.And op.And (r.neg n text v)) (rel_joined deep e.other k.And op.And (r.neg m text u) (r.neg n text v) rel_neg))
+    rel_conj = rel_bind deep (r.neg m text u) (r.neg n text v) _ _ rel_neg (rel_repeat deep (is k.And) (r.operation k.And op.And (r.neg m text u)) (r.operation k.And op.And (r.neg n text v)) (rel_operation deep e.other k.And op.And (r.neg m text u) (r.neg n text v) rel_neg))
 
     pub rel_expr : Rel deep (r.expr m text u) (r.expr n text v)
     unfolding r.expr
-    rel_expr = rel_bind deep (r.conj m text u) (r.conj n text v) _ _ rel_conj (rel_repeat deep (is k.Or) (r.joined k.Or op.Or (r.conj m text u)) (r.joined k.Or op.Or (r.conj n text v)) (rel_joined deep e.other k.Or op.Or (r.conj m text u) (r.conj n text v) rel_conj))
+    rel_expr = rel_bind deep (r.conj m text u) (r.conj n text v) _ _ rel_conj (rel_repeat deep (is k.Or) (r.operation k.Or op.Or (r.conj m text u)) (r.operation k.Or op.Or (r.conj n text v)) (rel_operation deep e.other k.Or op.Or (r.conj m text u) (r.conj n text v) rel_conj))
 
     pub rel_parens : Rel deep (r.parens m text u) (r.parens n text v)
     unfolding r.parens

@@ -128,8 +128,8 @@ divisor =
 unfoldable pub over : Expr → Parser Expr
 over a = do t ← expect k.Slash; v ← divisor; pure (divided t.at a v)
 
-unfoldable pub joined : Kind → BinaryOp → Parser Expr → Expr → Parser Expr
-joined kind o q a = do t ← expect kind; b ← q; pure (binary o t.at a b)
+unfoldable pub operation : Kind → BinaryOp → Parser Expr → Expr → Parser Expr
+operation kind o q a = do t ← expect kind; b ← q; pure (binary o t.at a b)
 
 unfoldable pub atom : Asked → Bytes → Under → Parser Expr
 atom m text u =
@@ -196,10 +196,10 @@ unfoldable pub neg : Asked → Bytes → Under → Parser Expr
 neg m text u = either (is k.Not) u.nots (pred m text u)
 
 unfoldable pub conj : Asked → Bytes → Under → Parser Expr
-conj m text u = neg m text u >>= repeat (is k.And) (joined k.And op.And (neg m text u))
+conj m text u = neg m text u >>= repeat (is k.And) (operation k.And op.And (neg m text u))
 
 unfoldable pub expr : Asked → Bytes → Under → Parser Expr
-expr m text u = conj m text u >>= repeat (is k.Or) (joined k.Or op.Or (conj m text u))
+expr m text u = conj m text u >>= repeat (is k.Or) (operation k.Or op.Or (conj m text u))
 
 -- the same one level deeper
 unfoldable pub parens : Asked → Bytes → Under → Parser Enclosure

@@ -133,8 +133,8 @@ abbrev pub over : Expr → Phrase Token Expr
 over a = do t ← word k.Slash; v ← divisor; nothing (divided t.at a v)
 
 -- an operator, and what stands to its right
-abbrev pub joined : Kind → BinaryOp → Phrase Token Expr → Expr → Phrase Token Expr
-joined kind o L a = do t ← word kind; b ← L; nothing (binary o t.at a b)
+abbrev pub operation : Kind → BinaryOp → Phrase Token Expr → Expr → Phrase Token Expr
+operation kind o L a = do t ← word kind; b ← L; nothing (binary o t.at a b)
 
 module _ (m : Asked) (text : Bytes) (d : Depth) where
   -- term = factor {"*" factor | "/" ["+" | "-"] integer}
@@ -184,11 +184,11 @@ module _ (m : Asked) (text : Bytes) (d : Depth) where
 
   -- conj = neg {AND neg}
   abbrev pub conj : Phrase Token Expr
-  conj = neg >>= Repeated (joined k.And op.And neg)
+  conj = neg >>= Repeated (operation k.And op.And neg)
 
   -- expr = conj {OR conj}
   abbrev pub expr : Phrase Token Expr
-  expr = conj >>= Repeated (joined k.Or op.Or conj)
+  expr = conj >>= Repeated (operation k.Or op.Or conj)
 
   -- the same one level deeper
   abbrev pub parens : Phrase Token Enclosure

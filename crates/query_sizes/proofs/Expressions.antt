@@ -105,8 +105,8 @@ weighs_operator a test o L p =
     weighs_both (behind (cost a + 1) p) (λ b.
     weighs_value (cost a + 1 + cost b) cost (node a.at (f.Binary (o t) t.at a b)) (omega (arith, cost-Binary a.at (o t) t.at a b))))
 
-weighs_joined : (kind : Kind) (o : BinaryOp) (L : Phrase Token Expr) → Costs L → (a : Expr) → Weighs (cost a) cost (g.joined kind o L a)
-weighs_joined kind o L p a = weighs_operator a (is kind) (λ _. o) L p
+weighs_operation : (kind : Kind) (o : BinaryOp) (L : Phrase Token Expr) → Costs L → (a : Expr) → Weighs (cost a) cost (g.operation kind o L a)
+weighs_operation kind o L p a = weighs_operator a (is kind) (λ _. o) L p
 
 module _ (m : Asked) (text : Bytes) (d : Depth) (cheap : Cheap d) where
   costs_atom : Costs (g.atom m text d)
@@ -165,10 +165,10 @@ module _ (m : Asked) (text : Bytes) (d : Depth) (cheap : Cheap d) where
   costs_neg = weighs_either cheap.nots costs_pred
 
   costs_conj : Costs (g.conj m text d)
-  costs_conj = weighs_both costs_neg (weighs_repeated cost (g.joined k.And op.And (g.neg m text d)) (weighs_joined k.And op.And (g.neg m text d) costs_neg))
+  costs_conj = weighs_both costs_neg (weighs_repeated cost (g.operation k.And op.And (g.neg m text d)) (weighs_operation k.And op.And (g.neg m text d) costs_neg))
 
   pub costs_expr : Costs (g.expr m text d)
-  costs_expr = weighs_both costs_conj (weighs_repeated cost (g.joined k.Or op.Or (g.conj m text d)) (weighs_joined k.Or op.Or (g.conj m text d) costs_conj))
+  costs_expr = weighs_both costs_conj (weighs_repeated cost (g.operation k.Or op.Or (g.conj m text d)) (weighs_operation k.Or op.Or (g.conj m text d) costs_conj))
 
   -- ---- the same one level deeper
 

@@ -115,33 +115,33 @@ unfolding spec.conj
 conj-loop-turn-init t c = first_of (search rules, grind (arith, common_steps))
 
 pub conj-returns-then-not-is_next : goal.conj-returns-then-not-is_next
-unfolding turns spec.joined
+unfolding turns spec.operation
 conj-returns-then-not-is_next t c =
-    let e = one_more (λ n. turns (is k.And) (spec.joined k.And op.And (spec.neg all c.args.text.now (spec.under all c.args.text.now c.args.levels))) n c.loop-turn.left c.loop-turn.tokens) _ c.loop-turn._turn c.loop-turn-test.true c.loop-turn.invariant in
+    let e = one_more (λ n. turns (is k.And) (spec.operation k.And op.And (spec.neg all c.args.text.now (spec.under all c.args.text.now c.args.levels))) n c.loop-turn.left c.loop-turn.tokens) _ c.loop-turn._turn c.loop-turn-test.true c.loop-turn.invariant in
     first_of (search rules, grind (arith, common_steps))
 
 pub conj-returns-in_err-at : goal.conj-returns-in_err-at
-unfolding turns spec.joined
+unfolding turns spec.operation
 conj-returns-in_err-at t c =
-    let e = one_more (λ n. turns (is k.And) (spec.joined k.And op.And (spec.neg all c.args.text.now (spec.under all c.args.text.now c.args.levels))) n c.loop-turn.left c.loop-turn.tokens) _ c.loop-turn._turn c.loop-turn-test.true c.loop-turn.invariant in
+    let e = one_more (λ n. turns (is k.And) (spec.operation k.And op.And (spec.neg all c.args.text.now (spec.under all c.args.text.now c.args.levels))) n c.loop-turn.left c.loop-turn.tokens) _ c.loop-turn._turn c.loop-turn-test.true c.loop-turn.invariant in
     first_of (search rules, grind (arith, common_steps))
 
 pub conj-returns-in_err-right : goal.conj-returns-in_err-right
-unfolding turns spec.joined
+unfolding turns spec.operation
 conj-returns-in_err-right t c =
-    let e = one_more (λ n. turns (is k.And) (spec.joined k.And op.And (spec.neg all c.args.text.now (spec.under all c.args.text.now c.args.levels))) n c.loop-turn.left c.loop-turn.tokens) _ c.loop-turn._turn c.loop-turn-test.true c.loop-turn.invariant in
+    let e = one_more (λ n. turns (is k.And) (spec.operation k.And op.And (spec.neg all c.args.text.now (spec.under all c.args.text.now c.args.levels))) n c.loop-turn.left c.loop-turn.tokens) _ c.loop-turn._turn c.loop-turn-test.true c.loop-turn.invariant in
     first_of (search rules, grind (arith, common_steps))
 
 pub conj-loop-turn-preserved : goal.conj-loop-turn-preserved
-unfolding turns spec.joined
+unfolding turns spec.operation
 conj-loop-turn-preserved t c =
-    let e = one_more (λ n. turns (is k.And) (spec.joined k.And op.And (spec.neg all c.args.text.now (spec.under all c.args.text.now c.args.levels))) n c.loop-turn.left c.loop-turn.tokens) _ c.loop-turn._turn c.loop-turn-test.true c.loop-turn.invariant in
+    let e = one_more (λ n. turns (is k.And) (spec.operation k.And op.And (spec.neg all c.args.text.now (spec.under all c.args.text.now c.args.levels))) n c.loop-turn.left c.loop-turn.tokens) _ c.loop-turn._turn c.loop-turn-test.true c.loop-turn.invariant in
     first_of (search rules, grind (arith, common_steps))
 
 pub conj-returns : goal.conj-returns
-unfolding turns spec.joined
+unfolding turns spec.operation
 conj-returns t c =
-    let e = no_more (λ n. turns (is k.And) (spec.joined k.And op.And (spec.neg all c.args.text.now (spec.under all c.args.text.now c.args.levels))) n c.loop-turn.left c.loop-turn.tokens) _ c.loop-turn._turn c.loop-turn-test.false c.loop-turn.invariant in
+    let e = no_more (λ n. turns (is k.And) (spec.operation k.And op.And (spec.neg all c.args.text.now (spec.under all c.args.text.now c.args.levels))) n c.loop-turn.left c.loop-turn.tokens) _ c.loop-turn._turn c.loop-turn-test.false c.loop-turn.invariant in
     first_of (search rules, grind (arith, common_steps))
 
 pub expr-returns-in_err-left : goal.expr-returns-in_err-left
@@ -153,33 +153,33 @@ unfolding spec.expr
 expr-loop-turn-init t c = first_of (search rules, grind (arith, common_steps))
 
 pub expr-returns-then-not-is_next : goal.expr-returns-then-not-is_next
-unfolding turns spec.joined
+unfolding turns spec.operation
 expr-returns-then-not-is_next t c =
-    let e = one_more (λ n. turns (is k.Or) (spec.joined k.Or op.Or (spec.conj all c.args.text.now (spec.under all c.args.text.now c.args.levels))) n c.loop-turn.left c.loop-turn.tokens) _ c.loop-turn._turn c.loop-turn-test.true c.loop-turn.invariant in
+    let e = one_more (λ n. turns (is k.Or) (spec.operation k.Or op.Or (spec.conj all c.args.text.now (spec.under all c.args.text.now c.args.levels))) n c.loop-turn.left c.loop-turn.tokens) _ c.loop-turn._turn c.loop-turn-test.true c.loop-turn.invariant in
     first_of (search rules, grind (arith, common_steps))
 
 pub expr-returns-in_err-at : goal.expr-returns-in_err-at
-unfolding turns spec.joined
+unfolding turns spec.operation
 expr-returns-in_err-at t c =
-    let e = one_more (λ n. turns (is k.Or) (spec.joined k.Or op.Or (spec.conj all c.args.text.now (spec.under all c.args.text.now c.args.levels))) n c.loop-turn.left c.loop-turn.tokens) _ c.loop-turn._turn c.loop-turn-test.true c.loop-turn.invariant in
+    let e = one_more (λ n. turns (is k.Or) (spec.operation k.Or op.Or (spec.conj all c.args.text.now (spec.under all c.args.text.now c.args.levels))) n c.loop-turn.left c.loop-turn.tokens) _ c.loop-turn._turn c.loop-turn-test.true c.loop-turn.invariant in
     first_of (search rules, grind (arith, common_steps))
 
 pub expr-returns-in_err-right : goal.expr-returns-in_err-right
-unfolding turns spec.joined
+unfolding turns spec.operation
 expr-returns-in_err-right t c =
-    let e = one_more (λ n. turns (is k.Or) (spec.joined k.Or op.Or (spec.conj all c.args.text.now (spec.under all c.args.text.now c.args.levels))) n c.loop-turn.left c.loop-turn.tokens) _ c.loop-turn._turn c.loop-turn-test.true c.loop-turn.invariant in
+    let e = one_more (λ n. turns (is k.Or) (spec.operation k.Or op.Or (spec.conj all c.args.text.now (spec.under all c.args.text.now c.args.levels))) n c.loop-turn.left c.loop-turn.tokens) _ c.loop-turn._turn c.loop-turn-test.true c.loop-turn.invariant in
     first_of (search rules, grind (arith, common_steps))
 
 pub expr-loop-turn-preserved : goal.expr-loop-turn-preserved
-unfolding turns spec.joined
+unfolding turns spec.operation
 expr-loop-turn-preserved t c =
-    let e = one_more (λ n. turns (is k.Or) (spec.joined k.Or op.Or (spec.conj all c.args.text.now (spec.under all c.args.text.now c.args.levels))) n c.loop-turn.left c.loop-turn.tokens) _ c.loop-turn._turn c.loop-turn-test.true c.loop-turn.invariant in
+    let e = one_more (λ n. turns (is k.Or) (spec.operation k.Or op.Or (spec.conj all c.args.text.now (spec.under all c.args.text.now c.args.levels))) n c.loop-turn.left c.loop-turn.tokens) _ c.loop-turn._turn c.loop-turn-test.true c.loop-turn.invariant in
     first_of (search rules, grind (arith, common_steps))
 
 pub expr-returns : goal.expr-returns
-unfolding turns spec.joined
+unfolding turns spec.operation
 expr-returns t c =
-    let e = no_more (λ n. turns (is k.Or) (spec.joined k.Or op.Or (spec.conj all c.args.text.now (spec.under all c.args.text.now c.args.levels))) n c.loop-turn.left c.loop-turn.tokens) _ c.loop-turn._turn c.loop-turn-test.false c.loop-turn.invariant in
+    let e = no_more (λ n. turns (is k.Or) (spec.operation k.Or op.Or (spec.conj all c.args.text.now (spec.under all c.args.text.now c.args.levels))) n c.loop-turn.left c.loop-turn.tokens) _ c.loop-turn._turn c.loop-turn-test.false c.loop-turn.invariant in
     first_of (search rules, grind (arith, common_steps))
 
 pub parens-returns-then-levels-eq0 : goal.parens-returns-then-levels-eq0

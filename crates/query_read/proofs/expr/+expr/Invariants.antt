@@ -94,7 +94,7 @@ abbrev pub invariant-more_sums-loop-turn : goal.invariant-more_sums-loop-turn
 invariant-more_sums-loop-turn l = spec.more (spec.sum all l.text (spec.under all l.text l.levels)) l.fn.found l.fn.tokens ≡ turns (is k.Comma) (spec.another (spec.sum all l.text (spec.under all l.text l.levels))) (l._turn-end - l._turn) l.sums l.tokens
 
 abbrev pub invariant-conj-loop-turn : goal.invariant-conj-loop-turn
-invariant-conj-loop-turn l = spec.conj all l.text (spec.under all l.text l.levels) l.fn.tokens ≡ turns (is k.And) (spec.joined k.And op.And (spec.neg all l.text (spec.under all l.text l.levels))) (l._turn-end - l._turn) l.left l.tokens
+invariant-conj-loop-turn l = spec.conj all l.text (spec.under all l.text l.levels) l.fn.tokens ≡ turns (is k.And) (spec.operation k.And op.And (spec.neg all l.text (spec.under all l.text l.levels))) (l._turn-end - l._turn) l.left l.tokens
 
 abbrev pub invariant-expr-loop-turn : goal.invariant-expr-loop-turn
-invariant-expr-loop-turn l = spec.expr all l.text (spec.under all l.text l.levels) l.fn.tokens ≡ turns (is k.Or) (spec.joined k.Or op.Or (spec.conj all l.text (spec.under all l.text l.levels))) (l._turn-end - l._turn) l.left l.tokens
+invariant-expr-loop-turn l = spec.expr all l.text (spec.under all l.text l.levels) l.fn.tokens ≡ turns (is k.Or) (spec.operation k.Or op.Or (spec.conj all l.text (spec.under all l.text l.levels))) (l._turn-end - l._turn) l.left l.tokens
