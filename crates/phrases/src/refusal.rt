@@ -3,7 +3,7 @@
 use std::alloc::AllocError;
 
 /// Reading stopped for want of memory, or at a token that cannot stand where it does.
-#[derive(Clone, Copy, Debug, Drop)]
+#[derive(Clone, Copy, Drop)]
 pub enum ReadError<F> {
     /// Memory was refused.
     NoMemory,
