@@ -1,5 +1,5 @@
 -- The elements of a list in ascending order, each once, by an order of theirs.
-use Rattle.std.specs.Prelude.{ℕ, List, [], ◌∷◌, fold}
+use Rattle.std.specs.Prelude.{List, [], ◌∷◌, fold}
 use Rattle.std.specs.declared.cmp.Ordering.{Ordering}
 use Rattle.std.specs.declared.cmp.Ordering.TheVariants.{Less, Equal, Greater}
 

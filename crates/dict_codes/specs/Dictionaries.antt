@@ -3,17 +3,8 @@
 use Rattle.std.specs.Prelude.{◌≡◌, ℕ, Bool, true, List}
 use Rattle.std.specs.List.{AllPairs, count_by, list_any}
 use Rattle.std.specs.Str.{bytes_eq}
-use Rattle.std.specs.declared.cmp.Ordering.{Ordering}
-use Rattle.std.specs.Ordering.{is_lt, nat_cmp}
-use Rattle.std.specs.Cmp.Lexicographic.{slice_cmp}
+pub use Rattle.sql_values.specs.Texts.{by_bytes, is_below}
 use Rattle.dict_codes.specs.Ascending.{ascending}
-
--- the order of texts by their bytes
-abbrev pub by_bytes : List ℕ → List ℕ → Ordering
-by_bytes = slice_cmp nat_cmp
-
-abbrev pub is_below : List ℕ → List ℕ → Bool
-is_below a b = is_lt (by_bytes a b)
 
 -- each text is below those behind it
 abbrev pub IsAscending : List (List ℕ) → Type 0
