@@ -1,4 +1,3 @@
-pub mod Options
 pub mod Numbers
 pub mod Tokens
 pub mod SameKinds

@@ -1,19 +1,16 @@
 -- The numbers that words spell, and the words that numbers are printed as.
-use Rattle.std.proofs.Common.{◌≡◌, ℕ, ℤ, pos, negsuc, zero, suc, subst, ◌^◌, ◌≤◌, ◌<◌, ◌+◌, ◌*◌, ◌-◌, ◌/◌, Bool, true, false, [], ◌∷◌, ◌++◌, length, take, drop, get_or, refl, ap, sym, ◌∙◌, arith}
-use Rattle.std.specs.Prelude.{Some, None, neg_ℤ, nat_le, if◌then◌else◌}
-use Rattle.std.specs.Option.{option_map}
+use Rattle.std.proofs.Common.{◌≡◌, ℕ, ℤ, pos, negsuc, suc, ◌^◌, ◌≤◌, ◌<◌, ◌+◌, ◌*◌, ◌-◌, ◌/◌, true, false, [], ◌∷◌, ◌++◌, length, take, drop, get_or, refl, ap, sym, ◌∙◌, arith}
+use Rattle.std.specs.Prelude.{Some, None, nat_le}
 use Rattle.std.specs.Char.{is_ascii_digit, digit_value}
 use Rattle.std.specs.Fmt.{decimal, signed_decimal}
 use Rattle.std.specs.List.{list_all}
 use Rattle.std.specs.Str.Parse.{digits_value, AllDigits, digits_value_after, starts_with_minus}
-use Rattle.std.proofs.lemmas.Bool.{and_parts, and_from, and_right, leb-true, le-leb, lt-leb}
+use Rattle.std.proofs.lemmas.Bool.{and_parts, and_from, and_right, le-leb, lt-leb}
 use Rattle.std.proofs.lemmas.List.{take-append-drop, length-drop}
 use Rattle.std.proofs.lemmas.List.Folds.{list_all_at}
 use Rattle.std.proofs.lemmas.Bool.Decides.{nat_tests}
 use Rattle.std.proofs.lemmas.Fmt.{decimal_is_IsNumeral_wide}
-use Rattle.std.proofs.lemmas.Option.{cond_some}
 use Rattle.voodoo_text.specs.Values.{Bytes, digits_within, integer_within}
-use Rattle.voodoo_text.proofs.Options.{mapped}
 
 digit_from_value : (b : ℕ) → digit_value b < 10 → is_ascii_digit b ≡ true
 digit_from_value b h = grind (arith, nat_tests)
@@ -29,13 +26,6 @@ pub natural_read : (most n : ℕ) → n ≤ most → n < 10 ^ 64 → digits_with
 natural_read most n below h =
     let is : digits_value 10 (decimal n) ≡ n = (decimal_is_IsNumeral_wide n h).1 in
     rw (decimal_digits n h, is, le-leb n most below) refl
-
-pub natural_below : (most n : ℕ) (w : Bytes) → digits_within most w ≡ Some n → n ≤ most
-natural_below most n w h =
-    let found = cond_some _ _ _ h in
-    let tests = and_parts _ _ found.0 in
-    let below = leb-true (digits_value 10 w) most tests.1 in
-    omega arith
 
 pub digits_unsigned : (w : Bytes) → list_all is_ascii_digit w ≡ true → starts_with_minus w ≡ false
 digits_unsigned [] h = refl
@@ -88,20 +78,3 @@ grows_past most w i within h =
 
 pub digit_is : (c : ℕ) → is_ascii_digit c ≡ true → digit_value c ≡ c - 48
 digit_is c h = grind (arith, nat_tests)
-
-negated_within : (least n : ℕ) → n ≤ least → (most : ℕ) → Within least most (neg_ℤ (pos n))
-negated_within least zero h most = omega arith
-negated_within least (suc n) h most = omega arith
-
-pub integer_fits : (least most : ℕ) (z : ℤ) (w : Bytes) → integer_within least most w ≡ Some z → Within least most z
-integer_fits least most z w h = by_sign (starts_with_minus w) h
-  where
-    by_sign : (minus : Bool) → (if minus then option_map (λ n. neg_ℤ (pos n)) (digits_within least (drop 1 w)) else option_map pos (digits_within most w)) ≡ Some z → Within least most z
-    by_sign true e =
-        let found = mapped (λ n. neg_ℤ (pos n)) (digits_within least (drop 1 w)) z e in
-        let W : ℤ → Type 0 = Within least most in
-        subst W found.2 (negated_within least found.0 (natural_below least found.0 (drop 1 w) found.1) most)
-    by_sign false e =
-        let found = mapped pos (digits_within most w) z e in
-        let W : ℤ → Type 0 = Within least most in
-        subst W found.2 (natural_below most found.0 w found.1)

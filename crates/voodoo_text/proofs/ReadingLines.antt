@@ -1,5 +1,5 @@
 -- A text is read line by line.
-use Rattle.std.proofs.Common.{◌≡◌, ℕ, ◌+◌, ◌<◌, ◌≤◌, Bool, true, false, not, List, [], ◌∷◌, ◌++◌, length, take, drop, get_or, refl, ap, sym, ◌∙◌, subst, arith, append_assoc, append-nil}
+use Rattle.std.proofs.Common.{◌≡◌, ℕ, ◌+◌, ◌<◌, ◌≤◌, Bool, true, false, not, List, [], ◌∷◌, ◌++◌, length, take, drop, get_or, refl, ap, sym, ◌∙◌, subst, arith}
 use Rattle.std.specs.Prelude.{Result, Ok, Err, if◌then◌else◌}
 use Rattle.std.specs.Str.{IsUtf8, is_utf8}
 use Rattle.std.proofs.lemmas.Str.{is_utf8-from_IsUtf8, IsUtf8-from_is_utf8}
@@ -8,18 +8,15 @@ use Rattle.std.proofs.lemmas.Bool.{not-true}
 use Rattle.std.proofs.lemmas.List.{take_all}
 use Rattle.std.proofs.lemmas.List.Sums.{prefix_len_passes}
 use Rattle.std.proofs.lemmas.List.Splits.{slice_split_none, slice_split_first}
-use Rattle.phrases.specs.declared.refusal.ReadError.{ReadError}
 use Rattle.programs.specs.declared.op.Statement.{Statement}
-use Rattle.voodoo_text.specs.declared.refusal.TextKind.{TextKind}
 use Rattle.voodoo_text.specs.declared.refusal.TextRefusal.{TextRefusal}
 use Rattle.voodoo_text.specs.declared.refusal.TextRefusal.TheVariants.{Bad}
 use Rattle.voodoo_text.specs.declared.refusal.TextKind.TheVariants.{NotText}
 use Rattle.voodoo_text.specs.declared.read_text.ReadProgram.{ReadProgram}
 use Rattle.voodoo_text.specs.Values.{Bytes}
-use Rattle.voodoo_text.specs.Tokens.{Token, tokens}
-use Rattle.voodoo_text.specs.Statements.{line_of}
+use Rattle.voodoo_text.specs.Tokens.{tokens}
 use Rattle.voodoo_text.specs.Spelled.{CanBeSpelled, StatementHasNames}
-use Rattle.voodoo_text.specs.Reading.{is_feed, lines, read, with_statement, on_line, with_line, read_lines, read_text, onto, Gives}
+use Rattle.voodoo_text.specs.Reading.{is_feed, lines, read, with_line, read_lines, read_text, Gives}
 
 -- ---- the first line
 
@@ -41,26 +38,9 @@ cut_none bytes len n is above =
 
 -- ---- what a line appends
 
-pub onto_statement : (n : ℕ) (s : Statement) (ss : List Statement) (ns : List ℕ) (others : Result ReadProgram TextRefusal)
-    → onto ss ns (with_statement n s others) ≡ onto (ss ++ s ∷ []) (ns ++ n ∷ []) others
-onto_statement n s ss ns (Ok r) = ap (λ (xs : List Statement). Ok (read xs (ns ++ n ∷ r.lines))) (sym (append_assoc ss (s ∷ []) r.program)) ∙ ap (λ (xs : List ℕ). Ok (read ((ss ++ s ∷ []) ++ r.program) xs)) (sym (append_assoc ns (n ∷ []) r.lines))
-onto_statement n s ss ns (Err e) = refl
-
-pub with_some : (n : ℕ) (ts : List Token) (r : Result Statement (ReadError TextKind)) (others : Result ReadProgram TextRefusal) → (ts ≡ [] → ⊥) → line_of ts ≡ r → with_line n ts others ≡ on_line n r others
-with_some n [] r others some h = absurd (some refl)
-with_some n (t ∷ ts) r others some h = ap (λ x. on_line n x others) h
-
 pub spelled_more : (ss : List Statement) (s : Statement) → StatementHasNames s → CanBeSpelled ss → CanBeSpelled (ss ++ s ∷ [])
 spelled_more [] s h names = (h, tt)
 spelled_more (x ∷ ss) s h names = (names.0, spelled_more ss s h names.1)
-
-pub onto_nothing : (r : Result ReadProgram TextRefusal) → onto [] [] r ≡ r
-onto_nothing (Ok r) = refl
-onto_nothing (Err e) = refl
-
-pub onto_end : (n : ℕ) (ss : List Statement) (ns : List ℕ) (rest : Bytes) → length rest < 1 → onto ss ns (read_lines n (lines rest)) ≡ Ok (read ss ns)
-onto_end n ss ns [] h = ap (λ (xs : List Statement). Ok (read xs (ns ++ []))) (append-nil ss) ∙ ap (λ (xs : List ℕ). Ok (read ss xs)) (append-nil ns)
-onto_end n ss ns (b ∷ rest) h = absurd (omega arith)
 
 -- ---- the whole text
 

@@ -3,7 +3,7 @@ use Rattle.std.proofs.Common.{◌≡◌, ℕ, zero, suc, Bool, true, false, List
 use Rattle.phrases.specs.declared.refusal.ReadError.TheVariants.{Refused}
 use Rattle.phrases.specs.Phrases.{Phrase, Both, nothing, ◌<|>◌, Repeated}
 use Rattle.phrases.specs.Parsers.{◌>>=◌, pure, next, either, turns, repeat}
-use Rattle.phrases.proofs.Good.{Fits, Some, free, bool_cases, bind_err, cond_is, good_pure, good_bind, good_either, good_same, weaken}
+use Rattle.phrases.proofs.Good.{Fits, Some, free, bool_cases, bind_err, cond_is, good_pure, good_bind, good_either, good_same}
 use Rattle.phrases.proofs.Repeats.{good_repeat}
 use Rattle.phrases.proofs.Shapes.{some_both, some_nothing, some_repeated, next-free, good_map}
 use Rattle.phrases.proofs.First.{Starts, Avoids}
@@ -127,18 +127,6 @@ many {L = L} {L' = L'} {turn = turn} sel r begins begins' a = record {
   blames = λ ts. blames_turns L free sel turn (λ b. (r b).reads) (λ b. (r b).blames) (length ts) a ts;
   text = some_repeated L a;
   text_easy = some_repeated L' a;
-}
-
--- what nothing goes on with
-pub shut : {A : Type 0} {L L' : Phrase Token A} {p : Parser A} (stop : Token → Bool) → Rule L L' free p → Rule L L' stop p
-shut {L = L} {L' = L'} {p = p} stop r = record {
-  easy = r.easy;
-  reads = weaken L p free stop r.reads (λ t h. refl);
-  reads_easy = weaken L' r.easy free stop r.reads_easy (λ t h. refl);
-  rel = r.rel;
-  blames = r.blames;
-  text = r.text;
-  text_easy = r.text_easy;
 }
 
 -- ---- other words for the same
