@@ -11,3 +11,4 @@ pub mod Projections
 pub mod Seen
 pub mod CheckSteps
 pub mod Limits
+pub mod Unions

@@ -1,11 +1,14 @@
 -- The laws of checks and of reached statements: programs compose, and statements leave other names alone.
-use Rattle.std.specs.Prelude.{◌≡◌, ◌≤◌, ◌<◌, ◌^◌, ℕ, ◌++◌, List, [], ◌∷◌, All, true, false, Some, Ok}
+use Rattle.std.specs.Prelude.{◌≡◌, ◌+◌, ◌||◌, length, ◌≤◌, ◌<◌, ◌^◌, ℕ, ◌++◌, List, [], ◌∷◌, All, true, false, Some, Ok}
 use Rattle.std.specs.Str.{bytes_eq}
 use Rattle.programs.specs.declared.op.Size.{Size}
 use Rattle.programs.specs.declared.op.Size.TheVariants.{Number, Of}
 use Rattle.programs.specs.declared.op.Op.{Op}
 use Rattle.programs.specs.Families.{Family, family, Range, Scatter}
 use Rattle.programs.specs.declared.op.Statement.{Statement}
+use Rattle.key_paths.specs.Substructures.{is_before}
+use Rattle.programs.specs.Merges.{merged}
+use Rattle.programs.specs.Orders.{Rises}
 use Rattle.programs.specs.Mentions.{Label, has_name}
 use Rattle.programs.specs.Outlines.{Shapes, Outline, len_in}
 use Rattle.programs.specs.Check.{Known, then_check, check_from, check, limit_of}
@@ -52,3 +55,10 @@ SizesFit op = SizesFitBy (family op)
 -- the first length that passes the limit is exact: it is far from the number at which products are kept
 abbrev pub LimitLaw : Type 0
 LimitLaw = (tables : Shapes) (program : List Statement) (shape : List Outline) (k n : ℕ) → ((t : Label) → len_in tables t ≤ 2 ^ 22) → All (λ s. SizesFit s.op) program → check tables program ≡ Ok shape → limit_of shape ≡ Some (k, n) → n ≤ 2 ^ 44
+
+-- ---- two ascending lists of paths as one
+-- it ascends where both do, has the paths of both and no other, and as many as both have
+pub record MergeLaws : Type 0 where
+  pub order : (xs ys : List Label) → Rises xs → Rises ys → Rises (merged is_before xs ys)
+  pub union : (xs ys : List Label) (p : Label) → has_name (merged is_before xs ys) p ≡ (has_name xs p || has_name ys p)
+  pub count : (xs ys : List Label) → length (merged is_before xs ys) ≡ length xs + length ys
