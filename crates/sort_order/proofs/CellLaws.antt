@@ -1,5 +1,5 @@
 -- Cells of which none is Over, place by place.
-use Rattle.std.proofs.Common.{◌≡◌, ℕ, zero, suc, pos, ◌+◌, ◌-◌, ◌<◌, ◌≤◌, Bool, true, false, cond, ◌||◌, List, [], ◌∷◌, ◌++◌, length, map, take, drop, get_or, replicate, refl, sym, ap, ◌∙◌, append-nil, append_assoc, arith, Some, None, Result, Ok, Err, Option, Less, Equal, Greater, not, ◌==◌}
+use Rattle.std.proofs.Common.{◌≡◌, ℕ, zero, suc, pos, ◌+◌, ◌-◌, ◌<◌, ◌≤◌, Bool, true, false, ◌||◌, List, [], ◌∷◌, ◌++◌, length, map, take, drop, get_or, replicate, refl, sym, ap, ◌∙◌, append_assoc, arith, Some, None, Ok, Err, Less, Equal, Greater, not, ◌==◌}
 use Rattle.std.specs.Prelude.{slice_get, filter, is_some}
 use Rattle.std.specs.List.{range_with_len, list_any}
 use Rattle.std.specs.Ordering.{ordering_then, ordering_index}
@@ -7,7 +7,7 @@ use Rattle.std.specs.declared.cmp.Ordering.{Ordering}
 use Rattle.std.proofs.lemmas.List.{take_all, drop_more, get_or_past, get_or-map, length-map, map-id, replicate_more}
 use Rattle.std.proofs.lemmas.List.Elements.{filter-append}
 use Rattle.std.proofs.lemmas.List.FromFn.{map-range_with_len_more}
-use Rattle.control_vectors.specs.Slots.{Slot, Cell, over, has_over, slots_in}
+use Rattle.control_vectors.specs.Slots.{Slot, Cell, has_over, slots_in}
 use Rattle.control_vectors.specs.declared.Over.{Over}
 use Rattle.control_vectors.proofs.SlotLaws.{length-slots_in}
 use Rattle.sort_order.specs.Keys.{KeyCells, SortKey, key_of, no_key}

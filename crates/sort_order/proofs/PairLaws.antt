@@ -1,11 +1,11 @@
 -- How many pairs of a bucket and its place are lower than another.
 use Rattle.std.proofs.Common.{◌≡◌, ℕ, zero, suc, ◌+◌, ◌-◌, ◌<◌, ◌≤◌, ℤ, pos, Bool, true, false, cond, List, [], ◌∷◌, ◌++◌, length, map, take, drop, get_or, refl, sym, ap, ◌∙◌, append-nil, append_assoc, arith, Some, None, Ok, Less, Equal, Greater, ◌==◌}
-use Rattle.std.specs.Prelude.{count_by, int_lt, nat_lt, slice_get}
+use Rattle.std.specs.Prelude.{count_by, nat_lt, slice_get}
 use Rattle.std.specs.List.{range_with_len}
 use Rattle.std.specs.List.Sorted.{IsPermutation, IsSorted, IsPartitionedBy}
 use Rattle.std.specs.Ordering.{is_lt, is_eq, int_eq, int_cmp, nat_cmp, ordering_then}
 use Rattle.std.specs.declared.cmp.Ordering.{Ordering}
-use Rattle.std.specs.Cmp.{IsTotalOrder, IsStrictWeakOrder}
+use Rattle.std.specs.Cmp.{IsStrictWeakOrder}
 use Rattle.std.proofs.lemmas.Bool.{false≢true}
 use Rattle.std.proofs.lemmas.Bool.Decides.{nat_tests}
 use Rattle.std.proofs.lemmas.Cmp.{int_cmp_total, nat_cmp_total, on_total, then_total}
@@ -13,7 +13,7 @@ use Rattle.std.proofs.lemmas.List.{take_all, drop_more, drop_all, map-append, le
 use Rattle.std.proofs.Math.Path.{fun_ext}
 use Rattle.std.proofs.lemmas.List.FromFn.{map-range_with_len_more}
 use Rattle.std.proofs.lemmas.List.Sorted.{ranks_by, sorted_far, sum_by-IsPermutation}
-use Rattle.control_vectors.specs.Slots.{Slot, Cell, cells_of, has_over, slots_in}
+use Rattle.control_vectors.specs.Slots.{Slot, Cell, slots_in}
 use Rattle.control_vectors.proofs.SlotLaws.{slots_in-append, length-slots_in}
 use Rattle.sort_order.specs.Buckets.{bucket, is_lower, is_same, partition_place, partition_slots}
 use Rattle.sort_order.specs.Pairs.{pair_cmp, one_pair, pairs_from, lower_pairs, rank_slot}

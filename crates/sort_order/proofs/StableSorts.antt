@@ -1,5 +1,5 @@
 -- A list has one stable sort.
-use Rattle.std.proofs.Common.{◌≡◌, ℕ, zero, suc, ◌+◌, ◌<◌, ◌≤◌, Bool, true, false, cond, not, ◌&&◌, List, [], ◌∷◌, length, get_or, refl, sym, ap, ◌∙◌, subst, arith}
+use Rattle.std.proofs.Common.{◌≡◌, ℕ, zero, suc, ◌+◌, ◌<◌, Bool, true, false, cond, not, ◌&&◌, List, [], ◌∷◌, length, get_or, refl, sym, ap, ◌∙◌, subst, arith}
 use Rattle.std.specs.Prelude.{filter}
 use Rattle.std.specs.Cmp.{IsStrictWeakOrder}
 use Rattle.std.specs.List.Sorted.{IsSortedBy, IsStableBy, ties}
@@ -142,3 +142,16 @@ module _ {X : Type 0} (lt : X → X → Bool) (o : IsStrictWeakOrder lt) where
   -- what a stable sort gives
   pub stable_sort : (xs ys : List X) → IsSortedBy lt ys → IsStableBy lt xs ys → ys ≡ sorted_by lt xs
   stable_sort xs ys up stable = one_sort ys (sorted_by lt xs) (ascends_of ys up) (sorted_ascends xs) (λ w. stable w ∙ sym (sorted_stable w xs))
+
+  -- ---- the insertion sort is one
+  sorted_of : (xs : List X) → Ascends xs → IsSortedBy lt xs
+  sorted_of [] a k d low high = absurd (omega arith)
+  sorted_of (x ∷ []) a k d low high = absurd (omega arith)
+  sorted_of (x ∷ y ∷ ys) a zero d low high = a.0.0
+  sorted_of (x ∷ y ∷ ys) a (suc k) d low high = let next : suc k + 1 ≡ suc (k + 1) = omega arith in rw next (sorted_of (y ∷ ys) a.1 k d (omega arith) (omega arith))
+
+  pub insertion_sorts : (xs : List X) → IsSortedBy lt (sorted_by lt xs)
+  insertion_sorts xs = sorted_of (sorted_by lt xs) (sorted_ascends xs)
+
+  pub insertion_is_stable : (xs : List X) → IsStableBy lt xs (sorted_by lt xs)
+  insertion_is_stable xs = λ w. sorted_stable w xs

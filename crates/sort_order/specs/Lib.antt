@@ -3,3 +3,4 @@ pub mod Orders
 pub mod Buckets
 pub mod Pairs
 pub mod Answers
+pub mod Laws

@@ -12,6 +12,7 @@ ghost use Rattle.control_vectors.specs.Slots.{Cell};
 use control_vectors::{Over, Slot};
 use std::alloc::AllocError;
 
+pub mod laws;
 pub mod ordering;
 pub mod partition;
 

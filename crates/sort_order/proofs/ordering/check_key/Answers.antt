@@ -1,4 +1,4 @@
-use Rattle.std.proofs.Common.{◌≡◌, ◌≤◌, get_or, length, arith}
+use Rattle.std.proofs.Common.{get_or, arith}
 use Rattle.sort_order.specs.Keys.{no_key}
 use Rattle.sort_order.proofs.CellLaws.{over_at, clear_more, clear_all}
 use Rattle.sort_order.proofs.ordering.check_key.Goals as goal

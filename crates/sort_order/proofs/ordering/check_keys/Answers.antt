@@ -1,4 +1,4 @@
-use Rattle.std.proofs.Common.{◌≡◌, ◌<◌, length, arith}
+use Rattle.std.proofs.Common.{arith}
 use Rattle.sort_order.proofs.CellLaws.{any_at, any_more, any_all}
 use Rattle.sort_order.proofs.ordering.check_keys.Goals as goal
 

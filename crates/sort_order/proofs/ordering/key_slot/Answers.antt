@@ -1,4 +1,4 @@
-use Rattle.std.proofs.Common.{◌≡◌, get_or, length, sym, ◌∙◌, arith}
+use Rattle.std.proofs.Common.{get_or, sym, ◌∙◌, arith}
 use Rattle.std.proofs.lemmas.Bool.{false≢true}
 use Rattle.sort_order.specs.Keys.{no_key}
 use Rattle.sort_order.proofs.CellLaws.{over_at, slot_there, slot_past, key_clear}

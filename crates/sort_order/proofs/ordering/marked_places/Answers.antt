@@ -1,5 +1,5 @@
-use Rattle.std.proofs.Common.{◌≡◌, ◌≤◌, length, ap, ◌∙◌, sym, arith}
-use Rattle.control_vectors.specs.Slots.{has_over, slots_in}
+use Rattle.std.proofs.Common.{◌≡◌, length, ap, ◌∙◌, arith}
+use Rattle.control_vectors.specs.Slots.{slots_in}
 use Rattle.sort_order.proofs.CellLaws.{over_at, slot_after, clear_more, clear_all, length_slots, marked_below, marked_more}
 use Rattle.sort_order.proofs.ordering.marked_places.Goals as goal
 

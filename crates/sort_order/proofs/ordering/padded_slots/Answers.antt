@@ -1,4 +1,4 @@
-use Rattle.std.proofs.Common.{◌≡◌, ◌≤◌, ◌++◌, ◌-◌, ◌∙◌, ap, arith, length, replicate, List, None}
+use Rattle.std.proofs.Common.{◌≡◌, ◌++◌, ◌-◌, ◌∙◌, ap, arith, length, replicate, None}
 use Rattle.sort_order.proofs.CellLaws.{padded_more, places_as_slots}
 use Rattle.sort_order.proofs.ordering.padded_slots.Goals as goal
 

@@ -1,4 +1,4 @@
-use Rattle.std.proofs.Common.{◌≡◌, ◌≤◌, ◌++◌, ◌-◌, length, map, max, pos, replicate, take, Some, None}
+use Rattle.std.proofs.Common.{◌≡◌, ◌≤◌, ◌++◌, ◌-◌, length, max, replicate, take, None}
 use Rattle.sort_order.proofs.CellLaws.{places_as_slots}
 use Rattle.sort_order.proofs.ordering.padded_slots.Given as goal
 

@@ -1,4 +1,4 @@
-use Rattle.std.proofs.Common.{◌≡◌, ◌≤◌, ◌^◌, length, arith}
+use Rattle.std.proofs.Common.{◌≤◌, ◌^◌, length, arith}
 use Rattle.sort_order.proofs.CellLaws.{over_at, clear_more, clear_all}
 use Rattle.sort_order.proofs.PairLaws.{buckets_more, buckets_all, buckets_few}
 use Rattle.sort_order.proofs.partition.buckets_of.Goals as goal

@@ -1,5 +1,4 @@
-use Rattle.std.proofs.Common.{◌≡◌, ℕ, ℤ, get_or, length, ap, ◌∙◌, sym, arith, List, None}
-use Rattle.control_vectors.specs.Slots.{Slot}
+use Rattle.std.proofs.Common.{ℕ, ℤ, get_or, ap, ◌∙◌, arith, List, None}
 use Rattle.sort_order.specs.Pairs.{rank_slot}
 use Rattle.sort_order.proofs.PairLaws.{slots_more, ranks_are}
 use Rattle.sort_order.proofs.partition.places_of_buckets.Goals as goal
