@@ -2,13 +2,12 @@
 use Rattle.std.proofs.Common.{◌≡◌, ℕ, zero, suc, ◌-◌, ◌*◌, ◌^◌, ◌<◌, ◌≤◌, min, ℤ, pos, negsuc, neg_ℤ, ◌≤ℤ◌, List, [], ◌∷◌, ◌++◌, map, take, replicate, Bool, true, false, ◌||◌, not, if◌then◌else◌, refl, ap, sym, ◌∙◌, length, get_or, arith, nat_lt, Some, None, Result, Ok, Err}
 use Rattle.std.specs.Prelude.{FitsSigned, All, codes, ◌==◌}
 use Rattle.std.specs.Int.{w64}
-use Rattle.std.specs.List.{list_any, flat_map, range_with_len}
+use Rattle.std.specs.List.{flat_map}
 use Rattle.std.proofs.Math.Dec.{eqb-suc-zero}
 use Rattle.std.proofs.lemmas.Int.{ints}
 use Rattle.std.proofs.lemmas.Bool.Decides.{nat_tests}
 use Rattle.std.proofs.lemmas.List.{length-map, take_all}
 use Rattle.std.proofs.lemmas.List.Elements.{All-head, All-tail}
-use Rattle.std.proofs.lemmas.List.FromFn.{fill_by_all}
 use Rattle.std.proofs.lemmas.Option.{get_or_from_slice_get}
 use Rattle.control_vectors.specs.Slots.{Slot, Cell, fits_128, or_over, cells_of, all_slots, numbers}
 use Rattle.control_vectors.specs.Controls.{control_at, control_list}
@@ -21,8 +20,7 @@ use Rattle.struct_vectors.specs.Columns.{some_slots}
 use Rattle.struct_vectors.proofs.ColumnLaws.{length-some_slots, length-control_slots, slice_get-control_slots}
 use Rattle.programs.specs.declared.op.Op.TheVariants.{Persist}
 use Rattle.programs.specs.declared.op.FoldArgs.{FoldArgs}
-use Rattle.programs.specs.Mentions.{Label}
-use Rattle.programs.specs.Vectors.{Attribute, Vector, Env, Named, column, column_of, nothing, put, tables}
+use Rattle.programs.specs.Vectors.{Vector, Env, Named, column, column_of, nothing, put, tables}
 use Rattle.programs.specs.Outlines.{Outline, no_outline}
 use Rattle.programs.specs.Check.{limit_of}
 use Rattle.control_vectors.specs.Runs.{runs as runs_of, joined, slot_eq, differs, side_by_side, run_marks}

@@ -1,5 +1,5 @@
 -- The places of two vectors side by side.
-use Rattle.std.proofs.Common.{◌≡◌, ℕ, ◌*◌, List, length, refl, sym, ap, ◌∙◌}
+use Rattle.std.proofs.Common.{◌≡◌, ℕ, ◌*◌, List, length, ap, ◌∙◌}
 use Rattle.control_vectors.specs.Slots.{Slot}
 use Rattle.slot_moves.specs.Crosses.{left_places, right_places}
 use Rattle.programs.specs.Mentions.{Label}

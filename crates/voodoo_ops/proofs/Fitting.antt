@@ -1,6 +1,6 @@
 -- What the tests of an operator say, where none of them fails.
 use Rattle.std.proofs.Common.{◌≡◌, ℕ, ℤ, ◌*◌, ◌≤◌, ◌^◌, Bool, true, false, ◌||◌, not, List, [], ◌∷◌, ◌++◌, length, map, refl, sym, ap, ◌∙◌, subst, arith, nat_lt, Option, Some, None, if◌then◌else◌}
-use Rattle.std.specs.Prelude.{All, is_none, is_some}
+use Rattle.std.specs.Prelude.{is_none, is_some}
 use Rattle.std.specs.Option.{option_map}
 use Rattle.std.specs.List.{list_any}
 use Rattle.std.specs.Map.{lookup}
@@ -28,8 +28,8 @@ use Rattle.programs.specs.Vectors.{Attribute, Vector, Env, known}
 use Rattle.programs.specs.Merges.{merged}
 use Rattle.programs.specs.Moves as paths
 use Rattle.programs.specs.Outlines.{Outline, outlined, Shapes, outlines, outline_of, len_in, paths_in}
-use Rattle.programs.specs.Made.{size_in, capped, operand_len_in, pair_len_in, pair_outline, fold_outline, rank_outline, zipped_outline, made_by}
-use Rattle.programs.specs.Faults.{unknown_by, lacks_path, lacks_below, lacks_operand, lacks_pair, lacks_fold, lacks_rank, lacks_by, endless, path_clash, too_deep, has_many_keys, first_fault, tests_by}
+use Rattle.programs.specs.Made.{size_in, capped, operand_len_in, pair_len_in, made_by}
+use Rattle.programs.specs.Faults.{unknown_by, lacks_path, lacks_below, lacks_operand, lacks_by, endless, path_clash, too_deep, has_many_keys, first_fault, tests_by}
 use Rattle.voodoo_ops.specs.Attributes.{zipped, projected, upserted}
 use Rattle.voodoo_ops.specs.Ranges.{crossed}
 use Rattle.voodoo_ops.specs.Meaning.{size_of}

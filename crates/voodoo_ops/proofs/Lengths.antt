@@ -1,18 +1,17 @@
 -- How many slots the kernels give.
-use Rattle.std.proofs.Common.{◌≡◌, ℕ, ℤ, zero, suc, pos, ◌+◌, ◌-◌, ◌*◌, ◌≤◌, Bool, true, false, not, List, [], ◌∷◌, ◌++◌, length, map, filter, replicate, min, refl, sym, ap, ◌∙◌, arith, Some, None, Ok, if◌then◌else◌}
+use Rattle.std.proofs.Common.{◌≡◌, ℕ, ℤ, suc, pos, ◌+◌, ◌-◌, ◌*◌, ◌≤◌, Bool, true, false, not, List, [], ◌∷◌, length, map, replicate, min, refl, sym, ap, ◌∙◌, arith, Some, None, if◌then◌else◌}
 use Rattle.std.specs.Prelude.{is_some}
 use Rattle.std.specs.List.{range_with_len, flat_map}
 use Rattle.std.proofs.lemmas.List.{length-map, length-replicate, length-append}
 use Rattle.std.proofs.lemmas.List.Filters.{length-filter_both}
 use Rattle.std.proofs.lemmas.List.FromFn.{length-range_with_len, length-map-range_with_len}
-use Rattle.control_vectors.specs.Slots.{Slot, Cell, numbers}
-use Rattle.control_vectors.specs.Folds.{fold_slots}
+use Rattle.control_vectors.specs.Slots.{Slot, numbers}
 use Rattle.control_vectors.specs.declared.FoldKind.{FoldKind}
 use Rattle.control_vectors.specs.Runs.{runs, joined}
 use Rattle.slot_folds.specs.Folds.{folded, fold_run, selected, select_run, chosen, holds, scanned, scan_run, scan_cell}
 use Rattle.slot_moves.specs.Moves.{slot_at, gathered, writer, writers, bucketed}
 use Rattle.slot_moves.specs.Crosses.{left_places, right_places}
-use Rattle.sort_order.specs.Buckets.{bucket, partition_place, partition_slots, partitioned}
+use Rattle.sort_order.specs.Buckets.{bucket, partition_place, partitioned}
 use Rattle.sort_order.specs.Keys.{SortKey}
 use Rattle.sort_order.specs.Orders as orders
 use Rattle.sort_order.specs.Orders.{comes_before, inserted, sorted_by, marked, padded, ordered}

@@ -1,5 +1,5 @@
 -- The marks of runs, and what is folded over them.
-use Rattle.std.proofs.Common.{◌≡◌, ℕ, Bool, List, length, map, sym, ap, ◌∙◌, refl}
+use Rattle.std.proofs.Common.{◌≡◌, Bool, List, length, map, sym, ap, ◌∙◌, refl}
 use Rattle.control_vectors.specs.Slots.{Slot}
 use Rattle.programs.specs.Mentions.{Label}
 use Rattle.programs.specs.Vectors.{Vector, slots_of}

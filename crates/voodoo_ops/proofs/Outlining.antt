@@ -3,19 +3,14 @@ use Rattle.std.proofs.Common.{◌≡◌, ℕ, ◌*◌, ◌^◌, ◌≤◌, min, 
 use Rattle.std.specs.Option.{option_map}
 use Rattle.std.specs.Str.{bytes_eq}
 use Rattle.control_vectors.specs.Slots.{Slot, all_slots}
-use Rattle.control_vectors.specs.Controls.{control_list}
 use Rattle.control_vectors.specs.declared.FoldKind.{FoldKind}
 use Rattle.control_vectors.specs.declared.FoldKind.TheVariants as number
 use Rattle.control_vectors.specs.declared.Over.{Over}
 use Rattle.key_paths.specs.Substructures.{is_before, is_at_or_below}
-use Rattle.struct_vectors.specs.Columns.{some_slots}
 use Rattle.control_vectors.specs.declared.PairKind.{PairKind}
-use Rattle.control_vectors.specs.declared.PairKind.TheVariants as kind
-use Rattle.slot_folds.specs.Folds.{folded, selected, scanned}
+use Rattle.slot_folds.specs.Folds.{folded, scanned}
 use Rattle.slot_moves.specs.Crosses.{left_places, right_places}
-use Rattle.slot_moves.specs.Moves.{gathered, writers, bucketed}
-use Rattle.sort_order.specs.Buckets.{partitioned}
-use Rattle.sort_order.specs.Orders.{ordered}
+use Rattle.slot_moves.specs.Moves.{writers}
 use Rattle.programs.specs.declared.op.Size.{Size}
 use Rattle.programs.specs.declared.op.Size.TheVariants.{Number, Of}
 use Rattle.programs.specs.declared.op.Operand.{Operand}
@@ -27,21 +22,21 @@ use Rattle.programs.specs.declared.family.FoldOperator.{FoldOperator}
 use Rattle.programs.specs.declared.family.FoldOperator.TheVariants as of
 use Rattle.programs.specs.declared.family.RankOperator.{RankOperator}
 use Rattle.programs.specs.declared.family.RankOperator.TheVariants as by
-use Rattle.programs.specs.Families.{Family, family, Load, Persist, Range, Cross, Zip, Project, Upsert, Gather, Scatter, Rank, Materialize, Break, Fold, Order, Pair, BitShift}
+use Rattle.programs.specs.Families.{Family, Load, Persist, Range, Cross, Zip, Project, Upsert, Gather, Scatter, Rank, Materialize, Break, Fold, Order, Pair, BitShift}
 use Rattle.programs.specs.Mentions.{Label}
 use Rattle.programs.specs.Vectors.{Attribute, Vector, Env, known, cut_to, column, column_of, slots_of, put}
 use Rattle.programs.specs.Merges.{merged}
 use Rattle.programs.specs.Moves as paths
 use Rattle.programs.specs.Moves.{moved, others}
-use Rattle.programs.specs.Outlines.{Outline, outlined, Shapes, outlines, outline_of, known_outline, add_shape, len_in, paths_in}
+use Rattle.programs.specs.Outlines.{Outline, outlined, outlines, outline_of, known_outline, add_shape, len_in, paths_in}
 use Rattle.programs.specs.Made.{size_in, capped, operand_len_in, pair_len_in, pair_outline, fold_outline, rank_outline, zipped_outline, made_by}
 use Rattle.programs.proofs.Merging.{merged-map}
 use Rattle.voodoo_ops.specs.Attributes.{comes_before, below, beside, zipped, projected, resized, upserted}
 use Rattle.voodoo_ops.specs.Ranges.{ranged, crossed}
 use Rattle.voodoo_ops.specs.Slotwise.{pair_len, paired, pair_cells, shifted, shift_cells}
-use Rattle.voodoo_ops.specs.Folds.{fold, fold_select, fold_scan, folded_by}
+use Rattle.voodoo_ops.specs.Folds.{fold, fold_select, folded_by}
 use Rattle.voodoo_ops.specs.Runs.{run_marks}
-use Rattle.voodoo_ops.specs.Moves.{moved_to, gather, scatter, bucket, partition, ranked, order, sort_key}
+use Rattle.voodoo_ops.specs.Moves.{moved_to, gather, scatter, ranked, order}
 use Rattle.voodoo_ops.specs.Meaning.{effect_by, size_of}
 
 -- ---- what is known of names

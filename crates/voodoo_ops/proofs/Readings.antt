@@ -1,5 +1,5 @@
 -- What the operands of a slot-wise operator give.
-use Rattle.std.proofs.Common.{◌≡◌, ℕ, ℤ, List, map, length, refl, sym, ap, ◌∙◌, Some, None}
+use Rattle.std.proofs.Common.{◌≡◌, ℕ, ℤ, List, map, refl, ap, ◌∙◌, None}
 use Rattle.std.specs.Prelude.{slice_index_or}
 use Rattle.std.specs.List.{range_with_len}
 use Rattle.std.proofs.Math.Path.{fun_ext}
@@ -12,7 +12,6 @@ use Rattle.slot_wise.specs.Pairs.{pair_slot, bit_shift_slot}
 use Rattle.slot_wise.specs.Sources.{source_at, source_len}
 use Rattle.programs.specs.declared.op.Operand.{Operand}
 use Rattle.programs.specs.declared.op.Operand.TheVariants as operand
-use Rattle.programs.specs.declared.op.PairArgs.{PairArgs}
 use Rattle.programs.specs.Mentions.{Label}
 use Rattle.programs.specs.Vectors.{Env, known, slots_of}
 use Rattle.voodoo_ops.specs.Slotwise.{operand_at, pair_len, pair_cells, shift_cells}

@@ -1,5 +1,5 @@
 -- A scatter as a gather by the places that write.
-use Rattle.std.proofs.Common.{◌≡◌, ℕ, List, length, refl, sym, ap, ◌∙◌}
+use Rattle.std.proofs.Common.{◌≡◌, ℕ, List, length, sym, ap, ◌∙◌}
 use Rattle.control_vectors.specs.Slots.{Slot}
 use Rattle.slot_moves.specs.Moves.{writers}
 use Rattle.programs.specs.Mentions.{Label}

@@ -9,7 +9,7 @@ use Rattle.control_vectors.specs.Slots.{Slot}
 use Rattle.slot_moves.specs.Moves.{gathered}
 use Rattle.struct_vectors.specs.Columns.{ColumnValue}
 use Rattle.struct_vectors.specs.Vectors.{VectorValue, vector_of, paths_of, IsShaped, IsBelowRoot, HaveLength}
-use Rattle.struct_vectors.proofs.ArrangeLaws.{Chain, chain_ascending, chain_pairs_apart}
+use Rattle.struct_vectors.proofs.ArrangeLaws.{chain_ascending, chain_pairs_apart}
 use Rattle.programs.specs.Mentions.{Label}
 use Rattle.programs.specs.Vectors.{Attribute, seen, seen_attributes}
 use Rattle.programs.specs.Orders.{Rises}

@@ -2,9 +2,9 @@
 use Rattle.std.specs.Prelude.{slice_index_or}
 use Rattle.std.proofs.lemmas.List.{length-map}
 use Rattle.std.proofs.lemmas.List.Elements.{All-head, All-tail}
-use Rattle.std.proofs.Common.{◌≡◌, ℕ, zero, suc, ◌<◌, ◌≤◌, All, arith, Bool, true, false, ◌||◌, List, [], ◌∷◌, map, length, refl, sym, ap, ◌∙◌, Result, Ok, Err, if◌then◌else◌}
+use Rattle.std.proofs.Common.{◌≡◌, ℕ, zero, suc, ◌<◌, All, arith, Bool, false, ◌||◌, List, [], ◌∷◌, map, length, refl, sym, ap, ◌∙◌, Result, Ok, Err, if◌then◌else◌}
 use Rattle.std.specs.List.{list_any}
-use Rattle.control_vectors.specs.Slots.{Slot, Cell, over, cells_of, has_over, slots_in}
+use Rattle.control_vectors.specs.Slots.{Slot, over, cells_of, has_over, slots_in}
 use Rattle.control_vectors.specs.declared.Over.{Over}
 use Rattle.sort_order.specs.declared.OrderRefusal.{OrderRefusal}
 use Rattle.sort_order.specs.declared.OrderRefusal.TheVariants as refusal

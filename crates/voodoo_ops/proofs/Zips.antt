@@ -1,16 +1,15 @@
 -- The attributes of two vectors as those of one.
-use Rattle.std.proofs.Common.{◌≡◌, ℕ, zero, suc, ◌+◌, ◌^◌, ◌<◌, ◌≤◌, min, true, false, List, [], ◌∷◌, ◌++◌, map, length, drop, get_or, refl, sym, ap, ◌∙◌, arith, append_assoc}
+use Rattle.std.proofs.Common.{◌≡◌, ℕ, zero, suc, ◌+◌, ◌^◌, ◌<◌, ◌≤◌, min, true, false, List, [], ◌∷◌, ◌++◌, length, drop, get_or, refl, sym, ap, ◌∙◌, arith, append_assoc}
 use Rattle.std.specs.Prelude.{All}
 use Rattle.std.proofs.lemmas.List.{length-take, length-map}
 use Rattle.std.proofs.lemmas.List.Elements.{All-nil, All-cons, All-head, All-tail}
 use Rattle.key_paths.specs.Paths.{IsPath}
 use Rattle.key_paths.specs.Substructures.{is_before}
 use Rattle.struct_vectors.specs.Columns.{ColumnValue}
-use Rattle.struct_vectors.specs.Vectors.{VectorValue, vector_of, paths_of, columns_of, IsShaped, IsBelowRoot, HaveLength}
+use Rattle.struct_vectors.specs.Vectors.{VectorValue, vector_of, paths_of, columns_of, IsShaped, HaveLength}
 use Rattle.programs.specs.Mentions.{Label}
 use Rattle.programs.specs.Vectors.{Attribute, Vector, cut_to, seen, seen_attributes}
 use Rattle.programs.specs.Merges.{merged}
-use Rattle.programs.specs.Orders.{Rises}
 use Rattle.programs.specs.Outlines.{outline_of}
 use Rattle.programs.specs.Faults.{path_clash}
 use Rattle.programs.proofs.Merging.{merged-map, merged-all, merged-length, next_first, next_second, rises_merged, rises_ascending}

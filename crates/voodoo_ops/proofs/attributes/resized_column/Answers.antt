@@ -1,4 +1,4 @@
-use Rattle.std.proofs.Common.{◌≡◌, ◌≤◌, ap, sym, ◌∙◌, arith, List, [], ◌∷◌, ◌++◌, length}
+use Rattle.std.proofs.Common.{◌≤◌, ap, sym, ◌∙◌, arith, List, [], ◌∷◌, ◌++◌, length}
 use Rattle.control_vectors.specs.Slots.{Slot}
 use Rattle.slot_columns.specs.Builders.{BuilderValue}
 use Rattle.struct_vectors.specs.Columns.{ColumnValue}

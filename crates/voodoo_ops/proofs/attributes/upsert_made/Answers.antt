@@ -1,7 +1,6 @@
-use Rattle.std.proofs.Common.{◌≡◌, ◌+◌, ◌<◌, ◌^◌, List, length, arith, ap, sym, ◌∙◌, Ok}
+use Rattle.std.proofs.Common.{◌+◌, ◌<◌, ◌^◌, List, length, arith, ap, sym, ◌∙◌, Ok}
 use Rattle.std.specs.Prelude.{Result}
 use Rattle.control_vectors.specs.declared.Over.{Over}
-use Rattle.control_vectors.specs.Slots.{Slot}
 use Rattle.struct_vectors.specs.Vectors.{paths_of}
 use Rattle.programs.specs.Mentions.{Label}
 use Rattle.programs.specs.Vectors.{Vector, known, seen}

@@ -1,4 +1,4 @@
-use Rattle.std.proofs.Common.{◌≡◌, ◌∙◌, ap}
+use Rattle.std.proofs.Common.{◌∙◌}
 use Rattle.control_vectors.specs.Slots.{all_slots}
 use Rattle.slot_folds.specs.Folds.{scanned}
 use Rattle.programs.specs.Vectors.{seen, known, slots_of}

@@ -1,5 +1,4 @@
-use Rattle.std.proofs.Common.{◌≡◌, ◌∙◌, ap}
-use Rattle.control_vectors.specs.Slots.{all_slots}
+use Rattle.std.proofs.Common.{◌∙◌}
 use Rattle.slot_folds.specs.Folds.{selected}
 use Rattle.programs.specs.Vectors.{seen, known, slots_of}
 use Rattle.voodoo_ops.specs.Envs.{env_in}

@@ -1,4 +1,4 @@
-use Rattle.std.proofs.Common.{List, length, ap, sym, ◌∙◌, Ok}
+use Rattle.std.proofs.Common.{ap, ◌∙◌, Ok}
 use Rattle.std.specs.Prelude.{Result}
 use Rattle.control_vectors.specs.declared.Over.{Over}
 use Rattle.programs.specs.Vectors.{Vector, known, seen}

@@ -1,4 +1,3 @@
-use Rattle.std.proofs.Common.{sym, ◌∙◌}
 use Rattle.programs.specs.Vectors.{known}
 use Rattle.voodoo_ops.specs.Envs.{env_in}
 use Rattle.voodoo_ops.proofs.Seen.{found_length, found_slots, not_found}
