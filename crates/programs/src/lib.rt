@@ -22,8 +22,6 @@ pub mod ordered;
 pub mod outline;
 pub mod reach;
 pub mod shape;
-#[cfg(test)]
-mod tests;
 
 pub use check::ProgramRefusal;
 pub use family::{Family, FoldOperator, RankOperator};

@@ -9,6 +9,3 @@ pub use row_text::RowText;
 
 /// Memory ran out: the one refusal of a call that only allocates.
 pub type NoMemory = std::alloc::AllocError;
-
-#[cfg(test)]
-mod tests;

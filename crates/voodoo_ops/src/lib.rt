@@ -24,8 +24,6 @@ mod single;
 mod slotwise;
 mod sorting;
 pub mod sums;
-#[cfg(test)]
-mod tests;
 mod zip;
 
 pub use results::Results;

@@ -37,6 +37,3 @@ pub use refusal::{TextKind, TextRefusal};
 
 /// Memory ran out: the one refusal of a call that only allocates.
 pub type NoMemory = AllocError;
-
-#[cfg(test)]
-mod tests;
