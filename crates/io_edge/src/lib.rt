@@ -24,6 +24,3 @@ pub use writing::{write_all, write_pieces};
 
 /// Memory was refused: the one refusal that no contract foresees.
 pub type NoMemory = std::alloc::AllocError;
-
-#[cfg(test)]
-mod tests;

@@ -14,6 +14,3 @@ mod words;
 
 pub use status::{FileRole, LimitWhat, QueryCause, SchemaCause, Status, UsageKind};
 pub use top::run;
-
-#[cfg(test)]
-mod tests;
