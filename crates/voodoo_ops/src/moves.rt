@@ -134,11 +134,7 @@ fn bucket_made(alloc: Global, made: &Made, args: &RankArgs) -> Result<StructVect
 }
 
 /// The vector that Partition makes.
-fn partition_made(
-    alloc: Global,
-    made: &Made,
-    args: &RankArgs,
-) -> Result<StructVector, Stop>
+fn partition_made(alloc: Global, made: &Made, args: &RankArgs) -> Result<StructVector, Stop>
     requires { CanRank (env_in made.now) args.now }
     ensures { Exact seen result
         (Ok (partition (known ((env_in made.now) args.now.a)) (known ((env_in made.now) args.now.b)) args.now)) }
