@@ -7,7 +7,7 @@ use Rattle.std.proofs.KnownBytes.{Appends-trans}
 use Rattle.std.proofs.Math.Seq.{take-append-add}
 use Rattle.std.proofs.Math.Nat.{min-le_right}
 use Rattle.std.proofs.lemmas.List.{take-append-le, take_all, take_min}
-use Rattle.io_edge.specs.Sinks.{AppendsPrefix, joined}
+use Rattle.io_edge.specs.Sinks.{AppendsPrefix, concatenated}
 
 -- a text whole, then a prefix of the next: a prefix of the two and more
 pub Appends-prefix : (a b c : Option (List ℕ)) (p q r : List ℕ) → Appends a b p → AppendsPrefix b c q → AppendsPrefix a c (p ++ (q ++ r))
@@ -18,6 +18,6 @@ Appends-prefix a b c p q r whole h =
     record { count = length p + k; appended = subst (Appends a c) same (Appends-trans a b c _ _ whole h.appended) }
 
 -- the first of some texts, and then the others
-pub joined-first : (xs : List (Bor (List ℕ))) (d : Bor (List ℕ)) → 1 ≤ length xs → joined xs ≡ (get_or xs 0 d).now ++ joined (take (length xs - 1) (drop 1 xs))
-joined-first [] d h = absurd (omega arith)
-joined-first (x ∷ xs) d h = ap (λ (l : List (Bor (List ℕ))). x.now ++ joined l) (sym (take_all (length (x ∷ xs) - 1) xs (omega arith)))
+pub concatenated-first : (xs : List (Bor (List ℕ))) (d : Bor (List ℕ)) → 1 ≤ length xs → concatenated xs ≡ (get_or xs 0 d).now ++ concatenated (take (length xs - 1) (drop 1 xs))
+concatenated-first [] d h = absurd (omega arith)
+concatenated-first (x ∷ xs) d h = ap (λ (l : List (Bor (List ℕ))). x.now ++ concatenated l) (sym (take_all (length (x ∷ xs) - 1) xs (omega arith)))

@@ -30,5 +30,5 @@ pub record Steady : Type 0 where
   pub faults : ℕ
 
 -- borrowed texts, one after the other
-abbrev pub joined : List (Bor (List ℕ)) → List ℕ
-joined pieces = concat (map (λ piece. piece.now) pieces)
+abbrev pub concatenated : List (Bor (List ℕ)) → List ℕ
+concatenated pieces = concat (map (λ piece. piece.now) pieces)

@@ -3,7 +3,7 @@
 ghost use Rattle.std.specs.Prelude.{◌≤◌, OnOk, OnErr};
 ghost use Rattle.std.specs.Io.KnownBytes.{Appends};
 ghost use Rattle.io_edge.specs.Faults.{HasCause};
-ghost use Rattle.io_edge.specs.Sinks.{AppendsPrefix, joined};
+ghost use Rattle.io_edge.specs.Sinks.{AppendsPrefix, concatenated};
 
 use crate::{Failed, Sink};
 
@@ -26,8 +26,8 @@ pub fn write_all<O: Sink>(out: &mut O, text: &[u8]) -> Result<(), Failed>
 
 /// Writes several texts, one after the other, as `write_all` writes their whole.
 pub fn write_pieces<O: Sink>(out: &mut O, pieces: &[&[u8]]) -> Result<(), Failed>
-    ensures whole { OnOk result (Appends (O.written out.old) (O.written out.new) (joined pieces.now)) }
-    ensures prefix { OnErr result (AppendsPrefix (O.written out.old) (O.written out.new) (joined pieces.now)) }
+    ensures whole { OnOk result (Appends (O.written out.old) (O.written out.new) (concatenated pieces.now)) }
+    ensures prefix { OnErr result (AppendsPrefix (O.written out.old) (O.written out.new) (concatenated pieces.now)) }
     ensures cause { HasCause (O.faults out.old) (O.faults out.new) result }
 {
     let mut rest = pieces;

@@ -6,7 +6,7 @@ use Rattle.programs.specs.declared.op.ProgramKind.{ProgramKind}
 use Rattle.programs.specs.declared.op.Statement.{Statement}
 use Rattle.programs.specs.Mentions.{Label, is_persist}
 use Rattle.programs.specs.Outlines.{Outline, Shapes, add_shape}
-use Rattle.programs.specs.Made.{made_outline}
+use Rattle.programs.specs.MadeOutlines.{made_outline}
 use Rattle.programs.specs.Laws.{Avoids, CheckLaws}
 use Rattle.programs.specs.Check.{Known, with_result, with_vector, learn, fault_of, Checked, after_fault, check_one, then_check, check_from}
 

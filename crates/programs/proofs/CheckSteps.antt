@@ -8,7 +8,7 @@ use Rattle.programs.specs.declared.op.Statement.{Statement}
 use Rattle.programs.specs.declared.op.ProgramKind.{ProgramKind}
 use Rattle.programs.specs.Mentions.{Label}
 use Rattle.programs.specs.Outlines.{Outline, Shapes}
-use Rattle.programs.specs.Made.{made_outline}
+use Rattle.programs.specs.MadeOutlines.{made_outline}
 use Rattle.programs.specs.Faults.{unknown_name, no_such_path, no_length, path_clash, too_deep, too_many_keys}
 use Rattle.programs.specs.Check.{Known, Checked, name_twice, fault_of, after_fault, then_check, learn, known_behind, check_one, check_from, at_start}
 use Rattle.programs.specs.Refusals.{RefusesAt}

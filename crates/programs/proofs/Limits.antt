@@ -16,7 +16,7 @@ use Rattle.programs.specs.declared.op.ProgramKind.TheVariants.{TooManyStatements
 use Rattle.programs.specs.declared.op.Statement.{Statement}
 use Rattle.programs.specs.Mentions.{Label, is_persist}
 use Rattle.programs.specs.Outlines.{Outline, Shapes, no_outline, len_in, known_outline}
-use Rattle.programs.specs.Made.{made_by, made_outline, size_in, capped, pair_len_in, operand_len_in}
+use Rattle.programs.specs.MadeOutlines.{made_by, made_outline, size_in, capped, pair_len_in, operand_len_in}
 use Rattle.programs.specs.Check.{Known, fault, Checked, learn, fault_of, after_fault, then_check, check_from, at_start, names_result, shape_of, limit_from, limit_of, with_result, with_vector}
 use Rattle.programs.specs.Laws.{SizeFits, SizesFitBy, SizesFit, LimitLaw}
 use Rattle.programs.proofs.ShapeLaws.{none_of_if}

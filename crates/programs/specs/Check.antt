@@ -8,7 +8,7 @@ use Rattle.programs.specs.declared.op.ProgramKind.{ProgramKind}
 use Rattle.programs.specs.declared.op.ProgramKind.TheVariants.{TooManyStatements, NameTwice, NoPersist}
 use Rattle.programs.specs.Mentions.{Label, is_persist}
 use Rattle.programs.specs.Outlines.{Outline, Shapes, no_shapes, add_shape, no_outline}
-use Rattle.programs.specs.Made.{made_outline}
+use Rattle.programs.specs.MadeOutlines.{made_outline}
 use Rattle.programs.specs.Faults.{first_fault, op_tests}
 
 -- ---- statement by statement

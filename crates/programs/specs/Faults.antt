@@ -17,7 +17,7 @@ use Rattle.programs.specs.Mentions.{Label, mentioned_by, has_name}
 use Rattle.programs.specs.Moves.{is_deep}
 use Rattle.programs.specs.Orders.{Rises}
 use Rattle.programs.specs.Outlines.{Outline, Shapes, paths_in}
-use Rattle.programs.specs.Made.{made_by}
+use Rattle.programs.specs.MadeOutlines.{made_by}
 
 -- ---- names
 -- no earlier statement other than a Persist has a name that it mentions, or no table has the name that it loads

@@ -5,7 +5,7 @@ pub mod Merges
 pub mod Orders
 pub mod Outlines
 pub mod Moves
-pub mod Made
+pub mod MadeOutlines
 pub mod Faults
 pub mod Check
 pub mod Reaching

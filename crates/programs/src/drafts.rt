@@ -4,7 +4,7 @@ ghost use Rattle.std.specs.Prelude.{◌≡◌, ◌∷◌, [], false, All, IfOk};
 ghost use Rattle.key_paths.specs.Paths.{IsPath};
 ghost use Rattle.key_paths.specs.Substructures.{is_before};
 ghost use Rattle.programs.specs.Faults.{path_clash, too_deep};
-ghost use Rattle.programs.specs.Made.{zipped_outline};
+ghost use Rattle.programs.specs.MadeOutlines.{zipped_outline};
 ghost use Rattle.programs.specs.Merges.{merged};
 ghost use Rattle.programs.specs.Moves.{upserted};
 ghost use Rattle.programs.specs.Orders.{Rises};

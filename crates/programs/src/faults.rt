@@ -6,7 +6,7 @@ ghost use Rattle.key_paths.specs.Substructures.{is_at_or_below};
 ghost use Rattle.programs.specs.Check as check;
 ghost use Rattle.programs.specs.Faults as spec;
 ghost use Rattle.programs.specs.Faults.{first_fault, path_clash, too_deep};
-ghost use Rattle.programs.specs.Made.{made_outline};
+ghost use Rattle.programs.specs.MadeOutlines.{made_outline};
 ghost use Rattle.programs.specs.Mentions.{operand_names, size_names};
 ghost use Rattle.programs.specs.Outlines.{Outline, outlines};
 ghost use Rattle.programs.specs.Parts.{Drafts, known_in};

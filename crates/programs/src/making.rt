@@ -1,7 +1,7 @@
 //! The draft of the vector that a statement makes, behind what is known.
 
 ghost use Rattle.std.specs.Prelude.{◌≡◌, ◌∷◌, [], IfOk};
-ghost use Rattle.programs.specs.Made as spec;
+ghost use Rattle.programs.specs.MadeOutlines as spec;
 ghost use Rattle.programs.specs.Moves.{projected, upserted};
 ghost use Rattle.programs.specs.Outlines.{known_outline, len_in, outlined, outlines, paths_in};
 ghost use Rattle.programs.specs.Parts.{Drafts, known_in};

@@ -3,7 +3,7 @@ use Rattle.std.proofs.Common.{◌≡◌, ◌∙◌, ℕ, zero, suc, ◌+◌, ◌
 use Rattle.std.specs.declared.vec.Vec.{Vec}
 use Rattle.std.proofs.lemmas.List.{get_or-map, map_push, map-set}
 use Rattle.table_load.specs.Columns.{columns_in, empty_columns}
-use Rattle.table_load.specs.Held.{with_cells}
+use Rattle.table_load.specs.HeldColumns.{with_cells}
 
 pub empty_more : (n : ℕ) → empty_columns (n + 1) ≡ empty_columns n ++ [] ∷ []
 empty_more zero = refl

@@ -29,7 +29,7 @@ use Rattle.struct_vectors.specs.Columns.{ColumnValue}
 use Rattle.struct_vectors.specs.Refusals.{IsFirstClash}
 use Rattle.struct_vectors.specs.Vectors.{HaveLength, IsFirstOther, paths_of}
 use Rattle.table_load.specs.Databases.{path_of}
-use Rattle.table_load.specs.Held.{AreColumns}
+use Rattle.table_load.specs.HeldColumns.{AreColumns}
 use Rattle.table_load.specs.Vectors.{AreColumnPaths, HasColumns, attribute_in, attributes_in, cell_code, is_column_path, recoded}
 use Rattle.table_load.proofs.Limits.{few_columns, findings_at}
 use Rattle.table_load.proofs.StoreFacts.{all_differ, none_passes, no_findings, unmapped}

@@ -12,7 +12,7 @@ use Rattle.dict_codes.proofs.AscendingLaws.{ascending-is}
 use Rattle.dict_codes.proofs.DictionaryLaws.{sorted_from_ascending}
 use Rattle.dict_codes.proofs.Members.{first_or_later, here, nothing_in, there}
 use Rattle.table_load.specs.Databases.{rows_texts, tables_texts}
-use Rattle.table_load.specs.Held.{note, noted}
+use Rattle.table_load.specs.HeldColumns.{note, noted}
 use Rattle.table_load.specs.Values.{Table}
 use Rattle.table_load.proofs.Rowwise.{noted_grows}
 

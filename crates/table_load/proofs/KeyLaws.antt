@@ -14,7 +14,7 @@ use Rattle.std.proofs.lemmas.Map.Keys.{apart_from_distinct, IsDistinct-push}
 use Rattle.std.proofs.lemmas.Option.{slice_get-get_or}
 use Rattle.table_load.specs.Values.{same_value, value_at}
 use Rattle.table_load.specs.Columns.{empty_columns}
-use Rattle.table_load.specs.Held.{AreColumns, cells_at, IsCell, note, noted, row_at, rows_held, rows_to, value_of, values_of, with_cells}
+use Rattle.table_load.specs.HeldColumns.{AreColumns, cells_at, IsCell, note, noted, row_at, rows_held, rows_to, value_of, values_of, with_cells}
 use Rattle.table_load.specs.Reading.{Agrees, key_twice, noted_places, twice_at}
 use Rattle.table_load.proofs.Rowwise.{Grows, cell_within, grown_length, rows_to-more, rows_to-none, value_grown}
 

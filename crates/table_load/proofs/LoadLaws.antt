@@ -8,7 +8,7 @@ use Rattle.table_load.specs.declared.refusal.DataKind.{DataKind}
 use Rattle.table_load.specs.declared.refusal.DataRefusal.{DataRefusal}
 use Rattle.table_load.specs.declared.refusal.DataRefusal.TheVariants as refusal
 use Rattle.table_load.specs.Databases.{row_texts, rows_texts}
-use Rattle.table_load.specs.Held.{AreCells, AreColumns, noted, rows_held, values_of, with_cells}
+use Rattle.table_load.specs.HeldColumns.{AreCells, AreColumns, noted, rows_held, values_of, with_cells}
 use Rattle.table_load.specs.Reading.{Agrees, HasNoted, key_twice, noted_places, ReadsRecord}
 use Rattle.table_load.specs.Tables.{as_table, record_row, RefusedBy, rows_after, then_rows}
 use Rattle.table_load.specs.Values.{Value}

@@ -8,7 +8,7 @@ use Rattle.table_load.specs.declared.refusal.DataKind.{DataKind}
 use Rattle.table_load.specs.declared.refusal.DataKind.TheVariants.{KeyTwice}
 use Rattle.table_load.specs.Values.{Value, field_values}
 use Rattle.table_load.specs.Tables.{key_place, record_row, keyed_at, row_from, row_with_key, with_key}
-use Rattle.table_load.specs.Held.{AreCells, IsCell, value_of, values_of}
+use Rattle.table_load.specs.HeldColumns.{AreCells, IsCell, value_of, values_of}
 use Rattle.table_load.specs.Reading.{Agrees, key_twice, ReadsFields, twice_at}
 
 abbrev pub oks : List Value → List (Result Value DataKind)

@@ -8,7 +8,7 @@ use Rattle.std.proofs.lemmas.List.{get_or_append_left, get_or_push, flat_map_mor
 use Rattle.std.proofs.lemmas.Option.{get_or_from_slice_get}
 use Rattle.table_load.specs.Values.{Value, number, text}
 use Rattle.table_load.specs.Databases.{row_texts, rows_texts}
-use Rattle.table_load.specs.Held.{AreCells, AreColumns, cells_at, code_of, IsCell, IsCode, note, noted, row_at, rows_held, rows_to, value_of, values_of, with_cells}
+use Rattle.table_load.specs.HeldColumns.{AreCells, AreColumns, cells_at, code_of, IsCell, IsCode, note, noted, row_at, rows_held, rows_to, value_of, values_of, with_cells}
 
 -- ---- texts that are noted
 

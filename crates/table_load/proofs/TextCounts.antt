@@ -6,7 +6,7 @@ use Rattle.std.proofs.lemmas.List.{get_or-map, length-map}
 use Rattle.sql_read.specs.declared.definition.TableDef.{TableDef}
 use Rattle.sql_types.specs.Catalog.{findings}
 use Rattle.table_load.specs.Databases.{row_texts, rows_texts}
-use Rattle.table_load.specs.Held.{cells_at, IsHeld, note, noted, row_at, rows_held, rows_to, values_of}
+use Rattle.table_load.specs.HeldColumns.{cells_at, IsHeld, note, noted, row_at, rows_held, rows_to, values_of}
 use Rattle.table_load.specs.Values.{Table}
 use Rattle.table_load.proofs.Limits.{few_columns, few_tables}
 use Rattle.table_load.proofs.Rowwise.{rows_texts-more}

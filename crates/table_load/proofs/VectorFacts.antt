@@ -17,7 +17,7 @@ use Rattle.sql_read.specs.declared.definition.TableDef.{TableDef}
 use Rattle.struct_vectors.specs.Columns.{ColumnValue, narrow, some_slots}
 use Rattle.struct_vectors.specs.Vectors.{IsArranged, paths_of, vector_of, VectorValue}
 use Rattle.table_load.specs.Databases.{attributes_from, coded, column_of, vector_of_table}
-use Rattle.table_load.specs.Held.{AreColumns, IsCell, IsCode, row_at, rows_held, value_of}
+use Rattle.table_load.specs.HeldColumns.{AreColumns, IsCell, IsCode, row_at, rows_held, value_of}
 use Rattle.table_load.specs.Values.{Value, value_at}
 use Rattle.table_load.specs.Vectors.{attribute_in, attributes_in, cell_code, recoded}
 use Rattle.table_load.proofs.KeyLaws.{column_held, column_whole}

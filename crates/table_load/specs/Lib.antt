@@ -4,7 +4,7 @@ pub mod Values
 pub mod Tables
 pub mod Rules
 pub mod Databases
-pub mod Held
+pub mod HeldColumns
 pub mod Reading
 pub mod Columns
 pub mod Vectors

@@ -9,7 +9,7 @@ use Rattle.table_load.specs.declared.fields.FieldRefusal.{FieldRefusal}
 use Rattle.table_load.specs.declared.fields.FieldRefusal.TheVariants as field
 use Rattle.table_load.specs.Values.{Value}
 use Rattle.table_load.specs.Tables.{row_with_key}
-use Rattle.table_load.specs.Held.{AreCells, IsCell, noted, value_of, values_of}
+use Rattle.table_load.specs.HeldColumns.{AreCells, IsCell, noted, value_of, values_of}
 
 -- a field's reading is its value's, unless memory ran out
 abbrev pub ReadsField : List (List ℕ) → Bool → Result ℤ FieldRefusal → Result Value DataKind → Type 0

@@ -6,7 +6,7 @@ use Rattle.sql_read.specs.declared.definition.TableDef.{TableDef}
 use Rattle.sql_read.specs.Forms.{is_name, IsNamed}
 use Rattle.struct_vectors.specs.Columns.{ColumnValue, narrow, some_slots}
 use Rattle.table_load.specs.Databases.{path_of}
-use Rattle.table_load.specs.Held.{code_of}
+use Rattle.table_load.specs.HeldColumns.{code_of}
 
 -- a cell as the number that a vector keeps, where the texts have these codes
 abbrev pub cell_code : List ℤ → Bool → ℤ → ℤ

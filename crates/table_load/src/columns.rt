@@ -1,7 +1,7 @@
 //! Columns, cell by cell.
 
 ghost use Rattle.std.specs.Prelude.{◌≡◌, length, map, IfOk, OnOk};
-ghost use Rattle.table_load.specs.Held.{is_text_column, text_columns, with_cells};
+ghost use Rattle.table_load.specs.HeldColumns.{is_text_column, text_columns, with_cells};
 ghost use Rattle.table_load.specs.Columns.{columns_in, empty_columns};
 
 use io_edge::NoMemory;

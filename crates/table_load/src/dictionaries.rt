@@ -4,7 +4,7 @@ ghost use Rattle.std.specs.Prelude.{◌≡◌, ◌≤◌, ◌+◌, ◌^◌, ◌+
 ghost use Rattle.std.specs.List.{All};
 ghost use Rattle.dict_codes.specs.Dictionaries.{dictionary_of, rank_in};
 ghost use Rattle.table_load.specs.Databases.{rows_texts, tables_texts};
-ghost use Rattle.table_load.specs.Held.{noted};
+ghost use Rattle.table_load.specs.HeldColumns.{noted};
 
 use crate::RawTable;
 use dict_codes::Dictionary;

@@ -4,7 +4,7 @@ ghost use Rattle.std.specs.Prelude.{true, ◌≡◌, ◌≤◌, [], ◌∷◌, l
 ghost use Rattle.std.specs.Str.{is_utf8};
 ghost use Rattle.csv.specs.Records.{fields_of};
 ghost use Rattle.table_load.specs.Databases.{row_texts};
-ghost use Rattle.table_load.specs.Held.{AreCells, is_text_column, noted, text_columns, value_of, values_of};
+ghost use Rattle.table_load.specs.HeldColumns.{AreCells, is_text_column, noted, text_columns, value_of, values_of};
 ghost use Rattle.table_load.specs.Reading.{ReadsField, ReadsFields};
 ghost use Rattle.table_load.specs.Values.{field_value, field_values, text_field};
 

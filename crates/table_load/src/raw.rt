@@ -17,7 +17,7 @@ pub struct RawTable {
 impl Model for RawTable {
     ghost use Rattle.std.specs.Prelude.{length};
     ghost use Rattle.table_load.specs.Values.{Table};
-    ghost use Rattle.table_load.specs.Held.{rows_held, IsHeld};
+    ghost use Rattle.table_load.specs.HeldColumns.{rows_held, IsHeld};
     ghost use Rattle.table_load.specs.Columns.{columns_in};
 
     ghost Value = { Table };

@@ -1,7 +1,7 @@
 //! The distinct texts of a table.
 
 ghost use Rattle.std.specs.Prelude.{◌≡◌, ℕ, [], pos, Some, slice_get, IfOk, OnOk, OnErr};
-ghost use Rattle.table_load.specs.Held.{note};
+ghost use Rattle.table_load.specs.HeldColumns.{note};
 
 use indexmap::IndexSet;
 use io_edge::{Name, NoMemory};

@@ -9,7 +9,7 @@ ghost use Rattle.sql_types.specs.Catalog.{findings};
 ghost use Rattle.struct_vectors.specs.Vectors.{HaveLength, paths_of, vector_of};
 ghost use Rattle.table_load.specs.Columns.{columns_in};
 ghost use Rattle.table_load.specs.Databases.{store_of, vector_of_table};
-ghost use Rattle.table_load.specs.Held.{AreColumns, IsCell, IsCode};
+ghost use Rattle.table_load.specs.HeldColumns.{AreColumns, IsCell, IsCode};
 ghost use Rattle.table_load.specs.Vectors.{AreColumnPaths, HasColumns, attribute_in, attributes_in, cell_code, recoded};
 
 use crate::RawTable;

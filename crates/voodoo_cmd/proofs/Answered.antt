@@ -6,7 +6,7 @@ use Rattle.io_edge.specs.Shelves.{FileMap}
 use Rattle.voodoo_cmd.specs.declared.status.Status.{Status}
 use Rattle.voodoo_cmd.specs.declared.status.Status.TheVariants.{Done, Usage, ReadFault, WriteFault, SchemaRefused, DataRefused, QueryRefused, AlgebraRefused, LimitReached, Overflow, NotYet, NoMemory}
 use Rattle.voodoo_cmd.specs.Outcomes.{Outcome, Meets}
-use Rattle.voodoo_cmd.specs.Leaves.{Answers, Writes}
+use Rattle.voodoo_cmd.specs.RunEffects.{Answers, Writes}
 
 writes : (text : List ℕ) (status : Status) (old new : Option (List ℕ)) → Writes text status old new → Answers (Ok text) status old new
 writes text Done old new h = h

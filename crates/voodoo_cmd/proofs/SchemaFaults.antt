@@ -10,8 +10,8 @@ use Rattle.voodoo_cmd.specs.declared.status.FileRole.TheVariants.{Schema, Table,
 use Rattle.voodoo_cmd.specs.declared.status.Status.{Status}
 use Rattle.voodoo_cmd.specs.declared.status.Status.TheVariants.{Done, Usage, ReadFault, WriteFault, SchemaRefused, DataRefused, QueryRefused, AlgebraRefused, LimitReached, Overflow, NotYet, NoMemory}
 use Rattle.voodoo_cmd.specs.Expected.{schema_file_read}
-use Rattle.voodoo_cmd.specs.Leaves.{IsSchemaRole, SchemaFaultHasCause}
-use Rattle.voodoo_cmd.specs.Reads.{IsNumbered, TableFault, HasTableFault, HasTablesCause}
+use Rattle.voodoo_cmd.specs.RunEffects.{IsSchemaRole, SchemaFaultHasCause}
+use Rattle.voodoo_cmd.specs.TableFaults.{IsNumbered, TableFault, HasTableFault, HasTablesCause}
 use Rattle.voodoo_cmd.specs.Steps.{catalog_in}
 use Rattle.voodoo_cmd.proofs.Limits.{few_tables}
 use Rattle.voodoo_cmd.proofs.TablesLaws.{rose_earlier}

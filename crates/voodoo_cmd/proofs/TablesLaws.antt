@@ -13,7 +13,7 @@ use Rattle.voodoo_cmd.specs.declared.status.Status.{Status}
 use Rattle.voodoo_cmd.specs.declared.status.Status.TheVariants.{Done, Usage, ReadFault, WriteFault, SchemaRefused, DataRefused, QueryRefused, AlgebraRefused, LimitReached, Overflow, NotYet, NoMemory}
 use Rattle.voodoo_cmd.specs.Inputs.{HasFileCause}
 use Rattle.voodoo_cmd.specs.Paths.{table_file}
-use Rattle.voodoo_cmd.specs.Reads.{HasTableFault, HasTablesCause}
+use Rattle.voodoo_cmd.specs.TableFaults.{HasTableFault, HasTablesCause}
 use Rattle.voodoo_cmd.specs.Outcomes.{Outcome, Meets, ◌>>=◌}
 use Rattle.voodoo_cmd.specs.Steps.{table_in, tables_from}
 

@@ -4,8 +4,8 @@ pub mod Words
 pub mod Paths
 pub mod Inputs
 pub mod Steps
-pub mod Reads
+pub mod TableFaults
 pub mod Narrow
 pub mod Expected
-pub mod Leaves
-pub mod Gives
+pub mod RunEffects
+pub mod AnswerTexts

@@ -7,7 +7,7 @@ ghost use Rattle.table_load.specs.Databases.{database_of};
 ghost use Rattle.voodoo_cmd.specs.Inputs.{HasFileCause, IsDataRefusal};
 ghost use Rattle.voodoo_cmd.specs.Outcomes.{Meets};
 ghost use Rattle.voodoo_cmd.specs.Paths as paths;
-ghost use Rattle.voodoo_cmd.specs.Reads.{HasTablesCause};
+ghost use Rattle.voodoo_cmd.specs.TableFaults.{HasTablesCause};
 ghost use Rattle.voodoo_cmd.specs.Steps.{table_in, table_outcome, tables_from};
 
 use crate::inputs::{TABLE_LIMIT, read_file};

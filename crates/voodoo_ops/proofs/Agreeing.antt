@@ -14,7 +14,7 @@ use Rattle.programs.specs.Mentions.{Label, mentioned_by, operand_names, size_nam
 use Rattle.programs.specs.Merges.{merged}
 use Rattle.programs.specs.Moves.{projected, upserted}
 use Rattle.programs.specs.Outlines.{Outline, outlined, Shapes, known_outline, len_in, paths_in}
-use Rattle.programs.specs.Made.{size_in, capped, operand_len_in, pair_len_in, pair_outline, zipped_outline, made_by}
+use Rattle.programs.specs.MadeOutlines.{size_in, capped, operand_len_in, pair_len_in, pair_outline, zipped_outline, made_by}
 use Rattle.programs.specs.Faults.{unknown_by, lacks_path, lacks_below, lacks_operand, lacks_pair, lacks_by, tests_by}
 
 abbrev pub Agree : Shapes → Shapes → List Label → Type 0

@@ -28,7 +28,7 @@ use Rattle.programs.specs.Vectors.{Attribute, Vector, Env, known}
 use Rattle.programs.specs.Merges.{merged}
 use Rattle.programs.specs.Moves as paths
 use Rattle.programs.specs.Outlines.{Outline, outlined, Shapes, outlines, outline_of, len_in, paths_in}
-use Rattle.programs.specs.Made.{size_in, capped, operand_len_in, pair_len_in, made_by}
+use Rattle.programs.specs.MadeOutlines.{size_in, capped, operand_len_in, pair_len_in, made_by}
 use Rattle.programs.specs.Faults.{unknown_by, lacks_path, lacks_below, lacks_operand, lacks_by, endless, path_clash, too_deep, has_many_keys, first_fault, tests_by}
 use Rattle.voodoo_ops.specs.Attributes.{zipped, projected, upserted}
 use Rattle.voodoo_ops.specs.Ranges.{crossed}

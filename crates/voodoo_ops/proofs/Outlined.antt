@@ -9,7 +9,7 @@ use Rattle.programs.specs.Families.{family}
 use Rattle.programs.specs.Mentions.{Label}
 use Rattle.programs.specs.Vectors.{Vector, Env, put}
 use Rattle.programs.specs.Outlines.{Shapes, outlines, outline_of}
-use Rattle.programs.specs.Made.{made_outline}
+use Rattle.programs.specs.MadeOutlines.{made_outline}
 use Rattle.programs.specs.Check.{Known, learn, fault_of, after_fault, then_check, check_from, limit_of}
 use Rattle.programs.proofs.ShapeLaws.{all_short}
 use Rattle.voodoo_ops.specs.Meaning.{Run, effect, after_effect, step, then_run, run_from}

@@ -29,7 +29,7 @@ use Rattle.programs.specs.Merges.{merged}
 use Rattle.programs.specs.Moves as paths
 use Rattle.programs.specs.Moves.{moved, others}
 use Rattle.programs.specs.Outlines.{Outline, outlined, outlines, outline_of, known_outline, add_shape, len_in, paths_in}
-use Rattle.programs.specs.Made.{size_in, capped, operand_len_in, pair_len_in, pair_outline, fold_outline, rank_outline, zipped_outline, made_by}
+use Rattle.programs.specs.MadeOutlines.{size_in, capped, operand_len_in, pair_len_in, pair_outline, fold_outline, rank_outline, zipped_outline, made_by}
 use Rattle.programs.proofs.Merging.{merged-map}
 use Rattle.voodoo_ops.specs.Attributes.{comes_before, below, beside, zipped, projected, resized, upserted}
 use Rattle.voodoo_ops.specs.Ranges.{ranged, crossed}

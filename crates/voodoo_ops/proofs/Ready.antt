@@ -15,7 +15,7 @@ use Rattle.programs.specs.Mentions.{Label, mentioned, shows_result, is_persist, 
 use Rattle.programs.specs.Vectors.{Vector, Env, nothing, put, known}
 use Rattle.programs.specs.Reaching.{reach_if, reached, is_reached}
 use Rattle.programs.specs.Outlines.{Outline, no_outline, Shapes, outlines, outline_of, add_shape}
-use Rattle.programs.specs.Made.{made_by, made_outline}
+use Rattle.programs.specs.MadeOutlines.{made_by, made_outline}
 use Rattle.programs.specs.Faults.{first_fault, op_tests}
 use Rattle.programs.specs.Check.{Known, with_result, with_vector, Fault, fault, Checked, learn, known_behind, fault_of, after_fault, then_check, check_from, at_start, shape_of, names_result, limit_from}
 use Rattle.programs.proofs.Marks.{has_name-append}

@@ -4,7 +4,7 @@ use Rattle.programs.specs.Families.{Family, family, Persist}
 use Rattle.programs.specs.declared.op.Statement.{Statement}
 use Rattle.programs.specs.Vectors.{Env}
 use Rattle.programs.specs.Outlines.{Outline, Shapes, outlines}
-use Rattle.programs.specs.Made.{made_by}
+use Rattle.programs.specs.MadeOutlines.{made_by}
 use Rattle.programs.specs.Faults.{first_fault, tests_by}
 use Rattle.programs.specs.Check.{check, limit_of}
 

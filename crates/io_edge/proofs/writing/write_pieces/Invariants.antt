@@ -1,6 +1,6 @@
 use Rattle.std.proofs.Common.{◌≡◌, ◌≤◌, ◌++◌, ℕ, List, length}
 use Rattle.std.specs.Io.KnownBytes.{Appends}
-use Rattle.io_edge.specs.Sinks.{joined}
+use Rattle.io_edge.specs.Sinks.{concatenated}
 use Rattle.io_edge.proofs.writing.write_pieces.Given as goal
 
 abbrev pub invariant-pieces : goal.invariant-pieces
@@ -10,7 +10,7 @@ invariant-pieces g l =
       later : s.faults l.fn.out ≤ s.faults l.out;
       done : List ℕ;
       written : Appends (s.written l.fn.out) (s.written l.out) done;
-      whole : joined l.fn.pieces ≡ done ++ joined l.rest;
+      whole : concatenated l.fn.pieces ≡ done ++ concatenated l.rest;
     }
 
 abbrev pub decreases-pieces : goal.decreases-pieces

@@ -1,7 +1,7 @@
 use Rattle.std.proofs.Common.{ap, ◌∙◌, sym, length}
 use Rattle.programs.specs.Check.{Known}
 use Rattle.programs.specs.Outlines.{outlines}
-use Rattle.programs.specs.Made.{made_outline}
+use Rattle.programs.specs.MadeOutlines.{made_outline}
 use Rattle.programs.specs.Vectors.{tables}
 use Rattle.programs.specs.Parts.{known_in}
 use Rattle.programs.proofs.ShapeLaws.{length_behind}

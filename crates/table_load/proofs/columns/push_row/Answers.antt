@@ -1,7 +1,7 @@
 use Rattle.std.proofs.Common.{rules, ◌≡◌, ◌∙◌, ◌≤◌, ◌<◌, ◌+◌, ◌++◌, ◌∷◌, [], pos, length, get_or, set, arith, refl, sym, ap}
 use Rattle.std.proofs.lemmas.List.{length-map, length-set, take_all}
 use Rattle.table_load.specs.Columns.{columns_in}
-use Rattle.table_load.specs.Held.{with_cells}
+use Rattle.table_load.specs.HeldColumns.{with_cells}
 use Rattle.table_load.proofs.ColumnLaws.{in_set, push_at, with_first, with_nothing}
 use Rattle.table_load.proofs.columns.push_row.Goals as goal
 use Rattle.table_load.proofs.columns.push_row.Goals.{then-i-cells+in_ok-push, else-i-cells}

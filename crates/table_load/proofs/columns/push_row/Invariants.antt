@@ -1,6 +1,6 @@
 use Rattle.std.proofs.Common.{◌≡◌, length, take}
 use Rattle.table_load.specs.Columns.{columns_in}
-use Rattle.table_load.specs.Held.{with_cells}
+use Rattle.table_load.specs.HeldColumns.{with_cells}
 use Rattle.table_load.proofs.columns.push_row.Given as goal
 
 abbrev pub invariant-loop-i : goal.invariant-loop-i

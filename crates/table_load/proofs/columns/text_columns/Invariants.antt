@@ -1,5 +1,5 @@
 use Rattle.std.proofs.Common.{◌≡◌, take}
-use Rattle.table_load.specs.Held.{text_columns}
+use Rattle.table_load.specs.HeldColumns.{text_columns}
 use Rattle.table_load.proofs.columns.text_columns.Given as goal
 
 abbrev pub invariant-loop-column : goal.invariant-loop-column

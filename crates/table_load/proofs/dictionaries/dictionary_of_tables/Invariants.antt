@@ -1,6 +1,6 @@
 use Rattle.std.proofs.Common.{◌≡◌, ◌≤◌, ◌*◌, ◌^◌, [], length, take, flat_map}
 use Rattle.table_load.specs.Databases.{rows_texts}
-use Rattle.table_load.specs.Held.{noted}
+use Rattle.table_load.specs.HeldColumns.{noted}
 use Rattle.table_load.proofs.dictionaries.dictionary_of_tables.Given as goal
 
 abbrev pub invariant-loop-table : goal.invariant-loop-table

@@ -2,7 +2,7 @@ use Rattle.std.proofs.Common.{rules, Bor, ◌≡◌, ◌∙◌, ◌+◌, ◌<◌
 use Rattle.std.specs.Option.{option_map}
 use Rattle.std.proofs.lemmas.List.{get_or-map, length-map}
 use Rattle.csv.specs.Records.{fields_of}
-use Rattle.table_load.specs.Held.{is_text_column, text_columns, value_of, values_of}
+use Rattle.table_load.specs.HeldColumns.{is_text_column, text_columns, value_of, values_of}
 use Rattle.table_load.specs.Values.{field_value, field_values}
 use Rattle.table_load.proofs.FieldLaws.{cell_more, cells_empty, field_missing, oks-push, value_step, values_empty}
 use Rattle.table_load.proofs.RecordLaws.{oks}

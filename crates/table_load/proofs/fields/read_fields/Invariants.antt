@@ -1,7 +1,7 @@
 use Rattle.std.proofs.Common.{◌≡◌, ◌++◌, length, drop}
 use Rattle.csv.specs.Records.{fields_of}
 use Rattle.table_load.specs.Databases.{row_texts}
-use Rattle.table_load.specs.Held.{AreCells, noted, text_columns, values_of}
+use Rattle.table_load.specs.HeldColumns.{AreCells, noted, text_columns, values_of}
 use Rattle.table_load.specs.Values.{field_values}
 use Rattle.table_load.proofs.RecordLaws.{oks}
 use Rattle.table_load.proofs.fields.read_fields.Given as goal

@@ -4,7 +4,7 @@ use Rattle.std.specs.Ordering.{int_eq}
 use Rattle.std.proofs.lemmas.List.{length-map}
 use Rattle.csv.specs.Records.{fields_of}
 use Rattle.table_load.specs.Columns.{columns_in, empty_columns}
-use Rattle.table_load.specs.Held.{is_text_column, row_at, rows_held, text_columns, with_cells}
+use Rattle.table_load.specs.HeldColumns.{is_text_column, row_at, rows_held, text_columns, with_cells}
 use Rattle.table_load.specs.Tables.{rows_after}
 use Rattle.table_load.proofs.KeyLaws.{empty_whole, placed_none}
 use Rattle.table_load.proofs.LoadLaws.{agree_more, load_refused, row_more, rows_done, table_is, within_map}

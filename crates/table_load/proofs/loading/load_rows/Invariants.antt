@@ -3,7 +3,7 @@ use Rattle.std.specs.HashMap.{get}
 use Rattle.std.specs.Ordering.{int_eq}
 use Rattle.table_load.specs.Columns.{columns_in}
 use Rattle.table_load.specs.Databases.{rows_texts}
-use Rattle.table_load.specs.Held.{AreColumns, noted, rows_held, text_columns}
+use Rattle.table_load.specs.HeldColumns.{AreColumns, noted, rows_held, text_columns}
 use Rattle.table_load.specs.Tables.{rows_after}
 use Rattle.table_load.proofs.KeyLaws.{KeysPlaced}
 use Rattle.table_load.proofs.loading.load_rows.Given as goal

@@ -3,7 +3,7 @@ use Rattle.std.proofs.lemmas.List.{length-map}
 use Rattle.std.specs.HashMap.{get}
 use Rattle.std.specs.Ordering.{int_eq}
 use Rattle.csv.specs.Records.{fields_of}
-use Rattle.table_load.specs.Held.{is_text_column, text_columns}
+use Rattle.table_load.specs.HeldColumns.{is_text_column, text_columns}
 use Rattle.table_load.specs.Values.{field_values}
 use Rattle.table_load.proofs.RecordLaws.{read_all, read_stopped, read_twice, record_read}
 use Rattle.table_load.proofs.Rowwise.{noted_none}

@@ -2,7 +2,7 @@ use Rattle.std.proofs.Common.{rules, ◌≡◌, ◌∙◌, ◌+◌, ◌++◌, �
 use Rattle.std.specs.Vec.Iter.{into_iter_items}
 use Rattle.std.proofs.lemmas.Grind.{common_steps}
 use Rattle.table_load.specs.Columns.{columns_in}
-use Rattle.table_load.specs.Held.{AreColumns}
+use Rattle.table_load.specs.HeldColumns.{AreColumns}
 use Rattle.table_load.specs.Vectors.{attribute_in, attributes_in}
 use Rattle.table_load.proofs.VectorFacts.{attributes_end, next_attribute}
 use Rattle.table_load.proofs.vectors.attributes_of.Goals as goal

@@ -1,7 +1,7 @@
 use Rattle.std.proofs.Common.{◌≡◌, ◌≤◌, ◌^◌, ◌++◌, ℕ, drop, length}
 use Rattle.std.specs.Vec.Iter.{into_iter_items}
 use Rattle.table_load.specs.Columns.{columns_in}
-use Rattle.table_load.specs.Held.{AreColumns}
+use Rattle.table_load.specs.HeldColumns.{AreColumns}
 use Rattle.table_load.specs.Vectors.{attributes_in}
 use Rattle.table_load.proofs.vectors.attributes_of.Given as goal
 

@@ -6,7 +6,7 @@ use Rattle.io_edge.specs.Sinks.{AppendsPrefix}
 use Rattle.io_edge.specs.Shelves.{FileMap}
 use Rattle.voodoo_cmd.specs.Outcomes.{Outcome}
 use Rattle.voodoo_cmd.specs.Expected.{expected}
-use Rattle.voodoo_cmd.specs.Gives.{text_given}
+use Rattle.voodoo_cmd.specs.AnswerTexts.{text_given}
 use Rattle.voodoo_cmd.proofs.Answered.{Answers-written, Answers-refused}
 use Rattle.voodoo_cmd.proofs.top.run.Goals as goal
 use Rattle.voodoo_cmd.proofs.top.run.Goals.{in-Ok+in-Results-1, in-Ok+in-Rows-1, in-Err}
