@@ -18,7 +18,7 @@ use sql_read::{ColumnDef, ColumnKind};
 use std::alloc::{AllocError, Global};
 
 /// Why a field is not read.
-#[derive(Clone, Copy, Debug, Drop, PartialEq, Eq)]
+#[derive(Clone, Copy)]
 pub enum FieldRefusal {
     NoMemory,
     Bad(DataKind),
