@@ -3,5 +3,4 @@ pub mod Answered
 pub mod NarrowStores
 pub mod TablesLaws
 pub mod Then
-pub mod Limits
 pub mod SchemaFaults

@@ -13,7 +13,7 @@ use Rattle.voodoo_cmd.specs.Expected.{schema_file_read}
 use Rattle.voodoo_cmd.specs.RunEffects.{IsSchemaRole, SchemaFaultHasCause}
 use Rattle.voodoo_cmd.specs.TableFaults.{IsNumbered, TableFault, HasTableFault, HasTablesCause}
 use Rattle.voodoo_cmd.specs.Steps.{catalog_in}
-use Rattle.voodoo_cmd.proofs.Limits.{few_tables}
+use Rattle.table_load.proofs.Limits.{few_tables}
 use Rattle.voodoo_cmd.proofs.TablesLaws.{rose_earlier}
 
 role_of_number : (defs : List TableDef) (role : FileRole) → length defs ≤ 16 → IsNumbered defs role → IsSchemaRole role

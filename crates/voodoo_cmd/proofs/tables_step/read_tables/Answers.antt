@@ -1,7 +1,7 @@
 use Rattle.std.proofs.Common.{◌∙◌, map, ap, arith, refl}
 use Rattle.std.specs.Global.{Vec}
 use Rattle.table_load.specs.Values.{Table as TableValue}
-use Rattle.voodoo_cmd.proofs.Limits.{few_tables, few_columns}
+use Rattle.table_load.proofs.Limits.{few_tables, few_columns}
 use Rattle.voodoo_cmd.proofs.TablesLaws.{more_if_any, stop_if_any, none_if_any, degrees_more, table_fault}
 use Rattle.voodoo_cmd.proofs.tables_step.read_tables.Goals as goal
 
@@ -20,7 +20,7 @@ pub overflow_add-i : goal.overflow_add-i
 overflow_add-i g c = let few = few_tables c.args.defs.now c.requires.clean in omega (arith, few, c.loop-i-test.true)
 
 pub read_table-requires : goal.read_table-requires
-read_table-requires g c = record { few = few_columns c.args.defs.now c.loop-i.i c.index-defs-i.result c.requires.clean c.loop-i-test.true c.index-defs-i.is }
+read_table-requires g c = record { few = rw c.index-defs-i.is (few_columns c.args.defs.now c.loop-i.i c.index-defs-i.result c.requires.clean c.loop-i-test.true) }
 
 pub returns-in-Err-clause-tables : goal.returns-in-Err-clause-tables
 returns-in-Err-clause-tables g c =
