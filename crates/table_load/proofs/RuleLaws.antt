@@ -6,7 +6,7 @@ use Rattle.table_load.specs.declared.refusal.DataKind.{DataKind}
 use Rattle.table_load.specs.declared.refusal.DataRefusal.{DataRefusal}
 use Rattle.table_load.specs.declared.refusal.DataRefusal.TheVariants.{Bad, NoMemory}
 use Rattle.table_load.specs.Tables.{record_row, rows_after, then_rows}
-use Rattle.table_load.specs.Rules.{AreRows, IsFirstRefused, RefusesAt, TableRule}
+use Rattle.table_load.specs.Rules.{AreRows, RefusesAt, TableRule}
 use Rattle.table_load.specs.Values.{Value}
 
 abbrev Records : Type 0
