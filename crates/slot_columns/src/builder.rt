@@ -12,7 +12,7 @@ use struct_vectors::{Column, ColumnMaker};
 
 /// A column in the making. The memory for its slots is taken at the start, and once more at the first
 /// number that doesn't fit 64 bits, which moves the slots so far to 128 bits.
-#[derive(Debug, Drop)]
+#[derive(Drop)]
 pub struct ColumnBuilder {
     alloc: Global,
     room: u32,
