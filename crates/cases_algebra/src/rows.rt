@@ -13,7 +13,7 @@ pub fn rows(alloc: Global, given: &str, to: &mut String) -> Result<(), AllocErro
     for row in given.split('/').skip(1) {
         record.clear();
         fill(alloc, &mut record, row)?;
-        text.push(&record)?;
+        text = text.push(&record)?;
     }
     show_text(to, text.into_text()?.as_slice())
 }

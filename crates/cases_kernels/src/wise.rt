@@ -1,7 +1,8 @@
 //! Operators that work slot by slot.
 
 use case_columns::{column, int, show_made};
-use slot_wise::{PairKind, Source, common_len, pairs, shifts};
+use control_vectors::PairKind;
+use slot_wise::{Source, common_len, pairs, shifts};
 use std::alloc::{AllocError, Global};
 use struct_vectors::Column;
 

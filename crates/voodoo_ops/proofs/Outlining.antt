@@ -201,8 +201,9 @@ outline_made store env (Order a mark out keys) r v s e f =
     ap outline_of (sym (is_some_of (order (known (env a)) mark out keys) r v e f)) ∙ ap (λ (k : ℕ). outlined k (out ∷ [])) (sym (len_known env a))
 outline_made store env (Pair kind p) r v s e f = pair_outlined kind env p v (of_some (paired kind env p) r v e f)
 outline_made store env (BitShift x by out) r v s e f =
-    column_outline out (pair_len env x x) (operand_len_in (outlines env) x) (all_slots (shift_cells env x by)) v (operand_same env x) (of_some (shifted env x by out) r v e f)  -- one more vector has one more outline
+    column_outline out (pair_len env x x) (operand_len_in (outlines env) x) (all_slots (shift_cells env x by)) v (operand_same env x) (of_some (shifted env x by out) r v e f)
 
+-- one more vector has one more outline
 pub outlines-put : (env : Env) (n : Label) (v : Vector) (m : Label) → outlines (put env n v) m ≡ add_shape (outlines env) n (outline_of v) m
 outlines-put env n v m = by (bytes_eq n m)
   where
