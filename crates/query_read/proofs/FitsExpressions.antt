@@ -366,7 +366,7 @@ module _ (m : Asked) (text : Bytes) (d : Depth) (u : Under) (v : Level d u) wher
   quiet_2 : (h : Kind → Bool) → h k.Not ≡ false → h k.Between ≡ false → h k.In ≡ false → (a : Expr) → Quiet (of h) (test_2 a)
   quiet_2 h n i j a = quiet_either (of h) (g.negated m text d a) (test_3 a) (quiet_word h k.Not _ n) (quiet_3 h i j a)
 
-  quiet_test : (h : Kind → Bool) → h k.Equal ≡ false → h k.Differs ≡ false → h k.Less ≡ false → h k.LessEqual ≡ false → h k.Greater ≡ false → h k.GreaterEqual ≡ false → h k.Not ≡ false → h k.Between ≡ false → h k.In ≡ false → (a : Expr) → Quiet (of h) (g.test m text d a)
+  quiet_test : (h : Kind → Bool) → h k.Equal ≡ false → h k.Differs ≡ false → h k.Less ≡ false → h k.LessEqual ≡ false → h k.Greater ≡ false → h k.GreaterEqual ≡ false → h k.Not ≡ false → h k.Between ≡ false → h k.In ≡ false → (a : Expr) → Quiet (of h) (g.predicate_tail m text d a)
   quiet_test h b c e o q w n i j a = quiet_either (of h) (g.compared m text d a) (test_2 a)
       (quiet_token (of compares) (of h) (λ t. Both (g.sum m text d) (λ x. nothing (binary (comparison t.kind) t.at a x))) (λ t y. compares_are h false b c e o q w t.kind y))
       (quiet_2 h n i j a)
@@ -384,31 +384,31 @@ module _ (m : Asked) (text : Bytes) (d : Depth) (u : Under) (v : Level d u) wher
       (starts_word k.Not _)
       (λ xs rest b l e. quiet_3 (λ x. same_kind x k.Not) refl refl a xs rest b l (next-weaker (is k.Not) (of pred_stops) (λ t h. no_not t.kind h) rest e))
 
-  fits_test : (a : Expr) → FitsQ (g.test m text d a) (of pred_stops) (r.test m text u a)
-  unfolding r.test same_kind
+  fits_test : (a : Expr) → FitsQ (g.predicate_tail m text d a) (of pred_stops) (r.predicate_tail m text u a)
+  unfolding r.predicate_tail same_kind
   fits_test a = good_either (g.compared m text d a) (test_2 a) (r.compared m text u a) (either (is k.Not) (r.negated m text u a) (either (of ranges) (r.ranged m text u Plain a) (pure a))) (of compares) (of pred_stops)
       (wider (g.compared m text d a) (r.compared m text u a) (fits_compared a)) (fits_2' a)
       (starts_of compares (λ t. Both (g.sum m text d) (λ x. nothing (binary (comparison t.kind) t.at a x))))
       (λ xs rest b l e. quiet_2 compares refl refl refl a xs rest b l (next-weaker (of compares) (of pred_stops) (λ t h. no_compare t.kind h) rest e))
 
-  some_test : (a : Expr) → Some (g.test m text d a)
+  some_test : (a : Expr) → Some (g.predicate_tail m text d a)
   some_test a = record { text = []; value = a; reads = inr (inr (inr (refl, refl))) }
 
   fits_pred : FitsQ (g.pred m text d) (of pred_stops) (r.pred m text u)
   unfolding r.pred same_kind
-  fits_pred = good_bind (g.sum m text d) (g.test m text d) (r.sum m text u) (r.test m text u) (of sum_stops) (of pred_stops) fits_sum fits_test
+  fits_pred = good_bind (g.sum m text d) (g.predicate_tail m text d) (r.sum m text u) (r.predicate_tail m text u) (of sum_stops) (of pred_stops) fits_sum fits_test
       (λ a ys rest b l e. quiet_test sum_stops refl refl refl refl refl refl refl refl refl a ys rest b l (next-weaker (of sum_stops) (of pred_stops) (λ t h. or_right (tests t.kind) (sum_stops t.kind) h) rest e))
       some_test
 
   some_pred : Some (g.pred m text d)
-  some_pred = some_both (g.sum m text d) (g.test m text d) some_sum some_test
+  some_pred = some_both (g.sum m text d) (g.predicate_tail m text d) some_sum some_test
 
   -- ---- NOT, AND, OR
 
   fits_neg : FitsQ (g.neg m text d) (of pred_stops) (r.neg m text u)
   unfolding r.neg same_kind
   fits_neg = good_either d.nots (g.pred m text d) u.nots (r.pred m text u) (is k.Not) (of pred_stops) v.nots fits_pred v.nots_start
-      (λ xs rest a l e. avoids_both (is k.Not) (g.sum m text d) (g.test m text d)
+      (λ xs rest a l e. avoids_both (is k.Not) (g.sum m text d) (g.predicate_tail m text d)
       (avoids_sum (λ x. same_kind x k.Not) (avoids_factor (λ x. same_kind x k.Not) refl refl (avoids_atom (λ x. same_kind x k.Not) refl refl refl refl refl refl refl refl refl refl))) xs rest a l)
 
   some_neg : Some (g.neg m text d)
@@ -436,7 +436,7 @@ module _ (m : Asked) (text : Bytes) (d : Depth) (u : Under) (v : Level d u) wher
       (avoids_both (of h) (g.neg m text d) (Repeated (g.operation k.And op.And (g.neg m text d)))
       (avoids_either (of h) d.nots (g.pred m text d)
       (avoids_starts (is k.Not) (of h) d.nots (λ t u. of_kind h k.Not t u ∙ w) v.nots_start)
-      (avoids_both (of h) (g.sum m text d) (g.test m text d) (avoids_sum h (avoids_factor h x z (avoids_atom h y q o n j a b c e i))))))
+      (avoids_both (of h) (g.sum m text d) (g.predicate_tail m text d) (avoids_sum h (avoids_factor h x z (avoids_atom h y q o n j a b c e i))))))
 
   -- ---- one level deeper
 

@@ -197,8 +197,8 @@ module _ (deep : Fault) (m n : Asked) (e : Eases deep m n) (text : Bytes) where
     unfolding r.ranged
     rel_ranged s a = rel_either deep (is k.Between) _ _ _ _ (rel_between s a) (rel_contained s a)
 
-    rel_test : (a : Expr) → Rel deep (r.test m text u a) (r.test n text v a)
-    unfolding r.test r.negated
+    rel_test : (a : Expr) → Rel deep (r.predicate_tail m text u a) (r.predicate_tail n text v a)
+    unfolding r.predicate_tail r.negated
     rel_test a = rel_either deep (of compares) _ _ _ _ (rel_compared a)
         (rel_either deep (is k.Not) _ _ _ _ (after deep e.other k.Not _ _ (λ _. rel_ranged Negated a))
         (rel_either deep (of ranges) _ _ _ _ (rel_ranged Plain a) (ends deep e.other a)))

@@ -182,15 +182,15 @@ ranged m text u p a = either (is k.Between) (between m text u p a) (contained u 
 unfoldable pub negated : Asked → Bytes → Under → Expr → Parser Expr
 negated m text u a = expect k.Not >> ranged m text u Negated a
 
-unfoldable pub test : Asked → Bytes → Under → Expr → Parser Expr
-test m text u a =
+unfoldable pub predicate_tail : Asked → Bytes → Under → Expr → Parser Expr
+predicate_tail m text u a =
     either (of compares) (compared m text u a)
     (either (is k.Not) (negated m text u a)
     (either (of ranges) (ranged m text u Plain a)
     (pure a)))
 
 unfoldable pub pred : Asked → Bytes → Under → Parser Expr
-pred m text u = sum m text u >>= test m text u
+pred m text u = sum m text u >>= predicate_tail m text u
 
 unfoldable pub neg : Asked → Bytes → Under → Parser Expr
 neg m text u = either (is k.Not) u.nots (pred m text u)

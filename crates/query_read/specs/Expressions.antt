@@ -172,11 +172,11 @@ module _ (m : Asked) (text : Bytes) (d : Depth) where
   negated a = word k.Not >> ranged Negated a
 
   -- pred = sum [("=" | "<>" | "<" | "<=" | ">" | ">=") sum | [NOT] BETWEEN sum AND sum | [NOT] IN "(" sum {"," sum} ")"]
-  abbrev pub test : Expr → Phrase Token Expr
-  test a = compared a <|> (negated a <|> (ranged Plain a <|> nothing a))
+  abbrev pub predicate_tail : Expr → Phrase Token Expr
+  predicate_tail a = compared a <|> (negated a <|> (ranged Plain a <|> nothing a))
 
   abbrev pub pred : Phrase Token Expr
-  pred = sum >>= test
+  pred = sum >>= predicate_tail
 
   -- neg = {NOT} pred
   abbrev pub neg : Phrase Token Expr

@@ -371,7 +371,7 @@ fn negated(
 
 /// What follows the first sum of a predicate.
 #[cycle(expr)]
-#[tactic(auto, unfolding(crate::specs::ExpressionParsers::test))]
+#[tactic(auto, unfolding(crate::specs::ExpressionParsers::predicate_tail))]
 fn test(
     alloc: Global,
     text: &[u8],
@@ -379,7 +379,7 @@ fn test(
     levels: u8,
     a: Expr,
 ) -> Result<Expr, ReadError<Fault>>
-    ensures { Reads (spec.test asked.all text.now (spec.under asked.all text.now levels) a tokens.old) result tokens.new }
+    ensures { Reads (spec.predicate_tail asked.all text.now (spec.under asked.all text.now levels) a tokens.old) result tokens.new }
 {
     if is_next_of(tokens, Class::Comparison) {
         compared(alloc, text, tokens, levels, a)

@@ -152,7 +152,7 @@ module _ (m : Asked) (text : Bytes) (d : Depth) (cheap : Cheap d) where
   weighs_ranged : (p : Polarity) (a : Expr) → Weighs (cost a) cost (g.ranged m text d p a)
   weighs_ranged p a = weighs_either (weighs_between p a) (weighs_contained p a)
 
-  weighs_test : (a : Expr) → Weighs (cost a) cost (g.test m text d a)
+  weighs_test : (a : Expr) → Weighs (cost a) cost (g.predicate_tail m text d a)
   weighs_test a =
       weighs_either (weighs_operator a (of compares) (λ t. comparison t.kind) (g.sum m text d) costs_sum)
       (weighs_either (weighs_both (idle (cost a) (word k.Not)) (λ _. weighs_ranged Negated a))
