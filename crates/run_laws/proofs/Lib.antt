@@ -1,0 +1,9 @@
+mod TypingSteps
+mod TypedForms
+mod TypedQueries
+mod ParserSteps
+mod QueryParsers
+mod QueryTexts
+mod SchemaTexts
+mod Catalogs
+mod ProgramTexts
