@@ -6,4 +6,7 @@ mod QueryParsers
 mod QueryTexts
 mod SchemaTexts
 mod Catalogs
+mod Tables
 mod ProgramTexts
+mod RunSteps
+mod ExpectedAnswers

@@ -1,6 +1,6 @@
 //! The laws of what is expected, each stated once, as a contract.
 
-ghost use Rattle.run_laws.specs.Laws.{CatalogLaw, ProgramLaw, QueryLaw, SchemaLaw, TypingLaw};
+ghost use Rattle.run_laws.specs.Laws.{CatalogLaw, ExpectedLaw, ProgramLaw, QueryLaw, SchemaLaw, TableLaw, TypingLaw};
 
 /// The reading of a schema never comes to want of memory.
 pub fn schema_law()
@@ -10,6 +10,11 @@ pub fn schema_law()
 /// The look at a schema's definitions never comes to want of memory.
 pub fn catalog_law()
     ensures { CatalogLaw }
+{}
+
+/// The loading of a table never comes to want of memory.
+pub fn table_law()
+    ensures { TableLaw }
 {}
 
 /// The reading of a query never comes to want of memory.
@@ -25,4 +30,9 @@ pub fn typing_law()
 /// The reading of a program never comes to want of memory.
 pub fn program_law()
     ensures { ProgramLaw }
+{}
+
+/// What is expected of a run is never want of memory, whatever the words and files.
+pub fn expected_law()
+    ensures { ExpectedLaw }
 {}
