@@ -1,19 +1,13 @@
 -- Items that are found by the places of their names.
-use Rattle.std.proofs.Common.{◌≡◌, ℕ, zero, suc, ◌<◌, Bool, true, false, List, [], ◌∷◌, ◌++◌, length, refl, sym, ap, ◌∙◌, arith, if◌then◌else◌, Option, Some, None, OnOk, Result, Ok, Err}
+use Rattle.std.proofs.Common.{◌≡◌, ℕ, zero, suc, ◌<◌, Bool, true, false, List, [], ◌∷◌, ◌++◌, length, refl, ap, ◌∙◌, arith, if◌then◌else◌, Option, Some, None}
 use Rattle.std.specs.Prelude.{slice_get, is_some}
-use Rattle.std.specs.Result.{is_err}
 use Rattle.std.specs.Str.{bytes_eq}
-use Rattle.std.proofs.lemmas.Bool.{false≢true}
 use Rattle.std.proofs.Math.Path.{fun_ext}
 use Rattle.programs.specs.Mentions.{Label}
 use Rattle.programs.specs.Outlines.{Outline, no_outline}
 use Rattle.programs.specs.Check.{at_start, with_vector, with_result}
 use Rattle.programs.specs.Indexes.{Places, no_places, noted, item_at, AreWithin}
 use Rattle.programs.specs.Parts.{known_of}
-
-pub on_ok : {T E : Type 0} (r : Result T E) (P : Type 0) → is_err r ≡ false → OnOk r P → P
-on_ok (Ok x) P e h = h
-on_ok (Err x) P e h = absurd (false≢true (sym e))
 
 slice_get_end : {A : Type 0} (xs : List A) (x : A) → slice_get (xs ++ x ∷ []) (length xs) ≡ Some x
 slice_get_end [] x = refl

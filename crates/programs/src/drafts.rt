@@ -63,7 +63,6 @@ impl Draft {
     pub fn of_path(alloc: Global, len: u64, path: &Path) -> Result<Draft, NoMemory>
         ensures { IfOk result (λ o. o ≡ outlined len (path.now ∷ [])) }
     {
-        let _root = path.is_root();
         let mut paths = Vec::with_capacity(alloc, 1)?;
         paths.push(path.copied(alloc)?)?;
         Ok(Draft { len, paths })

@@ -6,7 +6,7 @@ ghost use Rattle.programs.specs.Indexes.{no_places, noted, places_of};
 use crate::NoMemory;
 use indexmap::IndexMap;
 use io_edge::Name;
-use std::alloc::{AllocError, Global};
+use std::alloc::Global;
 
 /// A place for each of some names. Contracts see it by `places_of`, a function from a name to its
 /// place.
@@ -38,9 +38,7 @@ impl Index {
     {
         let key = String::from_str(alloc, name.text())?;
         let mut places = self.places;
-        if places.insert(key, place).is_err() {
-            return Err(AllocError);
-        }
+        places.insert(key, place)?;
         Ok(Index { places })
     }
 }

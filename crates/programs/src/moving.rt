@@ -11,8 +11,8 @@ ghost use Rattle.programs.specs.Parts.{Drafts, MovesTo};
 use crate::NoMemory;
 use crate::drafts::Draft;
 use crate::outline::Outline;
-use key_paths::{Path, PathRefusal};
-use std::alloc::{AllocError, Global};
+use key_paths::{Path, is_path};
+use std::alloc::Global;
 
 /// What a path's further segments stand behind: its text, and nothing for the root.
 fn stem(p: &Path) -> &str
@@ -48,11 +48,11 @@ pub fn moved_path(alloc: Global, x: &Path, p: &Path, q: &Path) -> Result<Option<
         unreachable!()
     };
     let text = joined(alloc, stem(q), rest)?;
-    match Path::read(alloc, text.as_str()) {
-        Ok(path) => Ok(Some(path)),
-        Err(PathRefusal::Bad { .. }) => Ok(None),
-        Err(PathRefusal::NoMemory) => Err(AllocError),
+    if !is_path(text.as_bytes()) {
+        return Ok(None);
     }
+    let path = Path::of(alloc, text.as_str())?;
+    Ok(Some(path))
 }
 
 /// The paths of an outline at or below `p`, with `q` in place of `p` at their start; `None` where one
