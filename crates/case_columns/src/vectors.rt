@@ -1,7 +1,8 @@
 //! Vectors of one attribute or two, and a store that has one.
 
 ghost use Rattle.std.specs.Prelude.{◌≤◌, ◌^◌, All, IfOk, vec_len};
-ghost use Rattle.struct_vectors.specs.Vectors.{IsBelowRoot};
+ghost use Rattle.key_paths.specs.Paths.{IsPath};
+ghost use Rattle.struct_vectors.specs.Vectors.{IsBelowRoot, paths_of};
 
 use crate::lists::{column, show};
 use io_edge::Name;
@@ -11,7 +12,8 @@ use struct_vectors::{Column, ShapeRefusal, Store, StructVector};
 
 /// The path that a word of a text spells, below the root.
 pub fn path(alloc: Global, text: &str, k: usize) -> Result<Path, AllocError>
-    ensures { IfOk result (λ p. IsBelowRoot p) }
+    ensures path { IfOk result IsPath }
+    ensures named { IfOk result IsBelowRoot }
 {
     let word = text.split_whitespace().nth(k).unwrap_or("");
     if word.len() > 1000 {
@@ -28,7 +30,8 @@ pub fn path(alloc: Global, text: &str, k: usize) -> Result<Path, AllocError>
 
 /// The attribute of a text: its path, then its slots.
 fn attribute(alloc: Global, text: &str) -> Result<(Path, Column), AllocError>
-    ensures { IfOk result (λ a. IsBelowRoot a.0) }
+    ensures path { IfOk result (λ a. IsPath a.0) }
+    ensures named { IfOk result (λ a. IsBelowRoot a.0) }
 {
     let path = path(alloc, text, 0)?;
     let (_, slots) = text.trim_start().split_once(' ').unwrap_or(("", ""));
@@ -39,6 +42,7 @@ fn attribute(alloc: Global, text: &str) -> Result<(Path, Column), AllocError>
 fn attributes(alloc: Global, first: &str, second: &str) -> Result<Vec<(Path, Column)>, AllocError>
     ensures some { IfOk result (λ v. 1 ≤ vec_len v) }
     ensures few { IfOk result (λ v. vec_len v ≤ 2) }
+    ensures paths { IfOk result (λ v. All IsPath (paths_of v.items)) }
     ensures named { IfOk result (λ v. All (λ a. IsBelowRoot a.0) v.items) }
 {
     let mut attributes = Vec::new(alloc);

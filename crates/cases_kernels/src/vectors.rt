@@ -44,6 +44,9 @@ fn stretch(
     let prefix = path(alloc, prefix, 0)?;
     match vector(alloc, len_of(first), first, second) {
         Ok(v) => {
+            if v.paths().len() > 2 {
+                return to.push_str(" too many paths");
+            }
             let PathRange { from, to: end } = PathRange::of(v.paths(), &prefix);
             write!(to, " {from} to {end}")
         }

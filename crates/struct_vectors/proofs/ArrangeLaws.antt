@@ -6,14 +6,14 @@ use Rattle.std.specs.List.Sorted.{IsPermutation, IsSorted, IsSortedByKey}
 use Rattle.std.specs.Ordering.{nat_cmp}
 use Rattle.std.specs.Cmp.Lexicographic.{slice_cmp}
 use Rattle.std.proofs.lemmas.Bool.{false≢true}
-use Rattle.std.proofs.lemmas.List.Sorted.{IsPermutation-map, All-permutation, length_permutation}
+use Rattle.std.proofs.lemmas.List.Sorted.{IsPermutation-map, All-permutation}
 use Rattle.std.proofs.lemmas.List.Elements.{All-cons, All-head, All-tail}
 use Rattle.std.proofs.lemmas.Option.{slice_get_within, slice_get-get_or, same_Some}
 use Rattle.key_paths.specs.Paths.{IsPath}
 use Rattle.key_paths.specs.Substructures.{is_at_or_below, is_before, IsAscending}
 use Rattle.key_paths.proofs.Orders.{below_between, before_trans, at_or_below_itself, not_before_back, before_or_equal}
 use Rattle.struct_vectors.specs.Columns.{ColumnValue, narrow}
-use Rattle.struct_vectors.specs.Vectors.{vector_of, paths_of, columns_of, IsBelowRoot, IsUniform, IsShaped, IsArranged, HasNoClash, IsClashAt}
+use Rattle.struct_vectors.specs.Vectors.{vector_of, paths_of, columns_of, IsBelowRoot, HaveLength, IsShaped, IsArranged, HasNoClash, IsClashAt}
 use Rattle.struct_vectors.specs.Refusals.{IsFirstClash, Refuses, NamesNeighbours}
 use Rattle.struct_vectors.specs.declared.shapes.ShapeRefusal.{ShapeRefusal}
 use Rattle.struct_vectors.specs.declared.shapes.ShapeRefusal.TheVariants.{LengthDiffers, PathRepeated, PathNested, NoMemory}
@@ -119,14 +119,13 @@ all_paths_of P xs h k d l =
     let e : (get_or xs k (d, some_column)).0 ≡ get_or (paths_of xs) k d = same_Some _ _ (sym (path_of_at xs k (d, some_column) (omega (arith, length-paths_of xs))) ∙ slice_get-get_or (paths_of xs) k d l) in
     subst P e (h k (d, some_column) (omega (arith, length-paths_of xs)))
 
-pub shaped_of : (n : ℕ) (given xs : List (List ℕ × ColumnValue)) → n ≤ 2 ^ 22 → length given < 2 ^ 32 → All (λ a. IsBelowRoot a.0) given → IsUniform n given → IsPermutation given xs → IsSortedByKey (λ a. a.0) (slice_cmp nat_cmp) xs → HasNoClash (paths_of xs) → IsShaped (vector_of n xs)
-shaped_of n given xs short few named uniform same sorted apart =
-    let paths : All IsPath (paths_of xs) = All-permutation IsPath (paths_of given) (paths_of xs) (same_paths given xs same) uniform.paths in
+pub shaped_of : (n : ℕ) (given xs : List (List ℕ × ColumnValue)) → n ≤ 2 ^ 22 → All IsPath (paths_of given) → All (λ a. IsBelowRoot a.0) given → HaveLength n given → IsPermutation given xs → IsSortedByKey (λ a. a.0) (slice_cmp nat_cmp) xs → HasNoClash (paths_of xs) → IsShaped (vector_of n xs)
+shaped_of n given xs short each named long same sorted apart =
+    let paths : All IsPath (paths_of xs) = All-permutation IsPath (paths_of given) (paths_of xs) (same_paths given xs same) each in
     let chain = chain_of (paths_of xs) (rise_of_sorted xs sorted) apart in
     record {
       short = short;
-      few = omega (arith, length-paths_of xs, length_permutation given xs same);
-      lengths = All-permutation (λ (a : List ℕ × ColumnValue). length a.1.slots ≡ n) given xs same uniform.lengths;
+      lengths = All-permutation (λ (a : List ℕ × ColumnValue). length a.1.slots ≡ n) given xs same long;
       paths = paths;
       below_root = all_paths_of IsBelowRoot xs (All-permutation (λ (a : List ℕ × ColumnValue). IsBelowRoot a.0) given xs same named);
       ascending = chain_ascending (paths_of xs) chain;
@@ -147,10 +146,10 @@ first_clash_of given xs place former latter same sorted clash e f = record {
   latter_is = f;
 }
 
-pub refuses_clash : (n : ℕ) (given xs : List (List ℕ × ColumnValue)) (place : ℕ) (refusal : ShapeRefusal) → IsUniform n given → IsPermutation given xs → IsSortedByKey (λ a. a.0) (slice_cmp nat_cmp) xs → IsClashAt (paths_of xs) place → NamesNeighbours (paths_of xs) place refusal → Refuses n given refusal
+pub refuses_clash : (n : ℕ) (given xs : List (List ℕ × ColumnValue)) (place : ℕ) (refusal : ShapeRefusal) → HaveLength n given → IsPermutation given xs → IsSortedByKey (λ a. a.0) (slice_cmp nat_cmp) xs → IsClashAt (paths_of xs) place → NamesNeighbours (paths_of xs) place refusal → Refuses n given refusal
 refuses_clash n given xs place (LengthDiffers k) u same sorted clash h = absurd h
-refuses_clash n given xs place (PathRepeated p) u same sorted clash h = (u.lengths, first_clash_of given xs place p p same sorted clash h.0 h.1)
-refuses_clash n given xs place (PathNested a p) u same sorted clash h = (u.lengths, h.0, first_clash_of given xs place a p same sorted clash h.1 h.2)
+refuses_clash n given xs place (PathRepeated p) u same sorted clash h = (u, first_clash_of given xs place p p same sorted clash h.0 h.1)
+refuses_clash n given xs place (PathNested a p) u same sorted clash h = (u, h.0, first_clash_of given xs place a p same sorted clash h.1 h.2)
 refuses_clash n given xs place NoMemory u same sorted clash h = absurd h
 
 -- ---- paths and columns that are kept apart

@@ -4,16 +4,15 @@ use Rattle.std.specs.Prelude.{Some, slice_get}
 use Rattle.std.specs.Option.{option_map}
 use Rattle.std.specs.List.{remove}
 use Rattle.std.proofs.lemmas.Bool.{cases_lt, false≢true}
-use Rattle.std.proofs.lemmas.List.{take_more, length-map, length-take-le, get_or-take, get_or_default, map-append}
+use Rattle.std.proofs.lemmas.List.{take_more, length-map, length-take-le, get_or-take, get_or_default}
 use Rattle.std.proofs.lemmas.List.Edits.{get_or-remove_below}
 use Rattle.std.proofs.lemmas.List.Elements.{All-push}
 use Rattle.std.proofs.lemmas.Option.{slice_get-map, slice_get_read, slice_get_within, same_Some, get_or_from_slice_get}
 use Rattle.std.specs.Str.{bytes_eq}
 use Rattle.std.proofs.lemmas.Slice.Eq.{bytes_eq-Decides}
-use Rattle.key_paths.specs.Paths.{IsPath}
 use Rattle.key_paths.specs.Substructures.{is_at_or_below}
 use Rattle.struct_vectors.specs.Columns.{ColumnValue}
-use Rattle.struct_vectors.specs.Vectors.{paths_of, IsUniform, IsFirstOther, ClashAt, HasNoClash, IsClashAt}
+use Rattle.struct_vectors.specs.Vectors.{paths_of, HaveLength, IsFirstOther, ClashAt, HasNoClash, IsClashAt}
 
 take_all : {X : Type 0} (xs : List X) → take (length xs) xs ≡ xs
 take_all [] = refl
@@ -31,23 +30,14 @@ length-paths_of xs = length-map xs (λ (b : List ℕ × ColumnValue). b.0)
 
 -- ---- attributes of one length
 
-pub uniform_none : (n : ℕ) → IsUniform n []
-uniform_none n = record { lengths = λ k d h. absurd (omega arith); paths = λ k d h. absurd (omega arith) }
-
-pub uniform_more : (n : ℕ) (xs : List (List ℕ × ColumnValue)) (i : ℕ) (a : List ℕ × ColumnValue) → i < length xs → a ≡ get_or xs i a → IsUniform n (take i xs) → length a.1.slots ≡ n → IsPath a.0 → IsUniform n (take (i + 1) xs)
-uniform_more n xs i a h e u l p =
+pub long_more : (n : ℕ) (xs : List (List ℕ × ColumnValue)) (i : ℕ) (a : List ℕ × ColumnValue) → i < length xs → a ≡ get_or xs i a → HaveLength n (take i xs) → length a.1.slots ≡ n → HaveLength n (take (i + 1) xs)
+long_more n xs i a h e u l =
     let more : take (i + 1) xs ≡ take i xs ++ a ∷ [] = take_more xs i a h ∙ ap (λ (b : List ℕ × ColumnValue). take i xs ++ b ∷ []) (sym e) in
-    rw more (record {
-      lengths = All-push (λ (b : List ℕ × ColumnValue). length b.1.slots ≡ n) (take i xs) a u.lengths l;
-      paths = rw (map-append (λ (b : List ℕ × ColumnValue). b.0) (take i xs) (a ∷ [])) (All-push IsPath (paths_of (take i xs)) a.0 u.paths p);
-    })
+    rw more (All-push (λ (b : List ℕ × ColumnValue). length b.1.slots ≡ n) (take i xs) a u l)
 
-pub uniform_all : (n : ℕ) (xs : List (List ℕ × ColumnValue)) (i : ℕ) → length xs ≤ i → i ≤ length xs → IsUniform n (take i xs) → IsUniform n xs
-uniform_all n xs i h k u = let same : i ≡ length xs = omega arith in rw (same, take_all xs) at u
-
-pub first_other : (n : ℕ) (xs : List (List ℕ × ColumnValue)) (i : ℕ) (a : List ℕ × ColumnValue) → i < length xs → a ≡ get_or xs i a → IsUniform n (take i xs) → length a.1.slots ≢ n → IsFirstOther n xs i
+pub first_other : (n : ℕ) (xs : List (List ℕ × ColumnValue)) (i : ℕ) (a : List ℕ × ColumnValue) → i < length xs → a ≡ get_or xs i a → HaveLength n (take i xs) → length a.1.slots ≢ n → IsFirstOther n xs i
 first_other n xs i a h e u other = record {
-  before = λ k b l at. rw (sym (get_or-take i xs k b l ∙ get_or_from_slice_get xs k b b at)) (u.lengths k b (omega (arith, length-take-le i xs (omega arith))));
+  before = λ k b l at. rw (sym (get_or-take i xs k b l ∙ get_or_from_slice_get xs k b b at)) (u k b (omega (arith, length-take-le i xs (omega arith))));
   attribute = a;
   at = slice_get_read xs (length xs) i a refl h e;
   other = other;

@@ -28,15 +28,9 @@ HaveLength n attributes = All (λ a. length a.1.slots ≡ n) attributes
 abbrev pub IsBelowRoot : List ℕ → Type 0
 IsBelowRoot path = is_root path ≡ false
 
--- attributes that a vector of n slots may have: each column has n slots, and each name is a path
-pub record IsUniform (n : ℕ) (attributes : List (List ℕ × ColumnValue)) : Type 0 where
-  pub lengths : HaveLength n attributes
-  pub paths : All IsPath (paths_of attributes)
-
 -- what holds of every vector
 pub record IsShaped (v : VectorValue) : Type 0 where
   pub short : v.length ≤ 2 ^ 22
-  pub few : length (paths_of v.attributes) < 2 ^ 32
   pub lengths : HaveLength v.length v.attributes
   pub paths : All IsPath (paths_of v.attributes)
   pub below_root : All IsBelowRoot (paths_of v.attributes)

@@ -12,7 +12,7 @@ use std::marker::Model;
 
 /// A list of at most 2^22 slots. Whole numbers that fit 64 bits may be kept narrow, at 8 bytes a
 /// slot, or 9 where some slots are empty. A control vector takes four numbers, whatever its length.
-#[derive(Debug, Drop)]
+#[derive(Drop)]
 pub struct Column {
     form: Form,
 }

@@ -10,7 +10,7 @@ use std::alloc::Global;
 
 /// What a column keeps. Where it has empty slots, a mark per slot stands beside the numbers: whether
 /// the slot has one.
-#[derive(Debug, Drop)]
+#[derive(Drop)]
 pub enum Form {
     Narrow(Vec<i64>),
     NarrowWithEmpties(Vec<i64>, Vec<bool>),

@@ -11,7 +11,7 @@ use std::alloc::Global;
 use std::marker::Model;
 
 /// The numbers of the slots so far, 0 for an empty one.
-#[derive(Debug, Drop)]
+#[derive(Drop)]
 pub enum Numbers {
     Narrow(Vec<i64>),
     Wide(Vec<i128>),
@@ -49,7 +49,7 @@ fn push_mark(marks: &mut Vec<bool>, mark: bool)
 
 /// A column in the making. The memory for its slots is taken at the start, so that no slot asks for
 /// any.
-#[derive(Debug, Drop)]
+#[derive(Drop)]
 pub struct ColumnMaker {
     room: u32,
     numbers: Numbers,

@@ -10,7 +10,7 @@ use io_edge::Name;
 use std::marker::Model;
 
 /// Vectors, each with a name of its own.
-#[derive(Debug, Drop)]
+#[derive(Drop)]
 pub struct Store {
     vectors: Vec<(Name, StructVector)>,
 }

@@ -6,8 +6,9 @@ ghost use Rattle.std.specs.Map.{lookup};
 ghost use Rattle.std.specs.Str.{bytes_eq};
 ghost use Rattle.std.specs.List.Sorted.{IsPermutation, IsSortedByKey};
 ghost use Rattle.std.specs.Cmp.Lexicographic.{slice_cmp};
+ghost use Rattle.key_paths.specs.Paths.{IsPath};
 ghost use Rattle.std.specs.Ordering.{nat_cmp};
-ghost use Rattle.struct_vectors.specs.Vectors.{vector_of, IsShaped, IsArranged, IsBelowRoot, IsUniform, IsFirstOther, IsClashAt, HasNoClash, paths_of, columns_of};
+ghost use Rattle.struct_vectors.specs.Vectors.{vector_of, IsShaped, IsArranged, IsBelowRoot, HaveLength, IsFirstOther, IsClashAt, HasNoClash, paths_of, columns_of};
 ghost use Rattle.struct_vectors.specs.Refusals.{Refuses, NamesNeighbours};
 
 use crate::NoMemory;
@@ -19,7 +20,7 @@ use std::marker::Model;
 
 /// Columns of one length, each named by a path. They are ascending by path, and no path is the root,
 /// equal to another or a prefix of another.
-#[derive(Debug, Drop)]
+#[derive(Drop)]
 pub struct StructVector {
     count: u32,
     paths: Vec<Path>,
@@ -49,6 +50,7 @@ impl StructVector {
         requires short { n ≤ 2 ^ 22 }
         requires some { 1 ≤ vec_len attributes }
         requires few { vec_len attributes < 2 ^ 32 }
+        requires paths { All IsPath (paths_of attributes.items) }
         requires named { All (λ a. IsBelowRoot a.0) attributes.items }
         ensures length { IfOk result (λ v. v.length ≡ n) }
         ensures attributes { IfOk result (λ v. IsArranged attributes.items v.attributes) }
@@ -73,12 +75,11 @@ impl StructVector {
 
     /// The vector of one attribute, as long as its column.
     pub fn of_column(alloc: Global, path: Path, column: Column) -> Result<StructVector, NoMemory>
-        requires { IsBelowRoot path }
+        requires path { IsPath path }
+        requires named { IsBelowRoot path }
         ensures { IfOk result (λ v. v ≡ vector_of (length column.slots) ((path, column) ∷ [])) }
     {
         let count = column.len();
-        let is_named = !path.is_root();
-        prove!(is_named);
         let mut paths = Vec::with_capacity(alloc, 1)?;
         let mut columns = Vec::with_capacity(alloc, 1)?;
         paths.push(path)?;
@@ -118,6 +119,7 @@ impl StructVector {
     /// The paths, ascending.
     pub fn paths(&self) -> &[Path]
         ensures paths { result.now ≡ paths_of self.now.attributes }
+        ensures each { All IsPath result.now }
         ensures shaped { IsShaped self.now }
     {
         self.paths.as_slice()
@@ -188,13 +190,10 @@ fn copied_columns(alloc: Global, columns: &Vec<Column>) -> Result<Vec<Column>, N
 
 /// The first attribute whose column has another length, counted from 0.
 fn first_of_other_length(n: u32, attributes: &[(Path, Column)]) -> Option<u32>
-    requires few { length attributes.now < 2 ^ 32 }
-    requires named { All (λ a. IsBelowRoot a.0) attributes.now }
-    ensures { MatchOption result (IsUniform n attributes.now) (IsFirstOther n attributes.now) }
+    requires { length attributes.now < 2 ^ 32 }
+    ensures { MatchOption result (HaveLength n attributes.now) (IsFirstOther n attributes.now) }
 {
     for (i, attribute) in attributes.iter().enumerate() {
-        let is_named = !attribute.0.is_root();
-        prove!(is_named);
         if attribute.1.len() != n {
             return Some(i as u32);
         }

@@ -169,6 +169,16 @@ root_apart (b ∷ c ∷ z) h = by_first (nat_eq b 46)
     by_first true = refl
     by_first false = refl
 
+is_path_of : (path : List ℕ) → is_column_path path ≡ true → IsPath path
+is_path_of [] h = absurd (false≢true h)
+is_path_of (b ∷ name) h =
+    let both = and_parts (nat_eq b 46) (is_name name) h in
+    let dot : b ≡ 46 = grind (arith, nat_tests, both.0) in
+    subst (λ (k : ℕ). IsPath (k ∷ name)) (sym dot) (path_of_name name both.1)
+
+pub are_paths : (paths : List (List ℕ)) → AreColumnPaths paths → All IsPath paths
+are_paths paths h k d l = is_path_of (get_or paths k d) (h.each k d l)
+
 pub below_root : (given : List (List ℕ × ColumnValue)) → AreColumnPaths (paths_of given) → All (λ a. is_root a.0 ≡ false) given
 below_root given h i d l =
     root_apart (get_or given i d).0 (subst (λ p. is_column_path p ≡ true) (get_or-map (λ (a : List ℕ × ColumnValue). a.0) given i d [] l) (h.each i [] (omega (arith, l, length-map given (λ a. a.0)))))

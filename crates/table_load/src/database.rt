@@ -21,7 +21,7 @@ use struct_vectors::Store;
 ///
 /// A vector has an attribute for each column, a dot and the column's name. Its slots are kept as i64, none of them empty: a
 /// date is its day number, with 1970-01-01 as 0, and a text is its code in the dictionary.
-#[derive(Debug, Drop)]
+#[derive(Drop)]
 pub struct Database {
     defs: Vec<TableDef>,
     dictionary: Dictionary,

@@ -1,9 +1,7 @@
 -- The vectors that Project and Upsert make.
-use Rattle.std.proofs.Common.{◌≡◌, ℕ, suc, ◌+◌, ◌^◌, ◌<◌, ◌≤◌, Bool, true, false, ◌||◌, not, cond, List, [], ◌∷◌, map, filter, length, refl, sym, ap, ◌∙◌, arith, subst, if◌then◌else◌}
+use Rattle.std.proofs.Common.{◌≡◌, ℕ, suc, ◌+◌, Bool, true, false, ◌||◌, not, cond, List, [], ◌∷◌, map, filter, length, refl, sym, ap, ◌∙◌, arith, subst, if◌then◌else◌}
 use Rattle.std.specs.Prelude.{All}
 use Rattle.std.specs.List.{list_any, prefix_len, insert}
-use Rattle.std.proofs.lemmas.List.{length-map}
-use Rattle.std.proofs.lemmas.List.Filters.{length-filter_both}
 use Rattle.std.proofs.lemmas.List.Elements.{All-nil, All-cons, All-head, All-tail, All-map, All-filter}
 use Rattle.control_vectors.specs.Slots.{Slot}
 use Rattle.key_paths.specs.Paths.{IsPath}
@@ -18,7 +16,7 @@ use Rattle.programs.specs.Moves.{moved, others}
 use Rattle.programs.specs.Orders.{Rises}
 use Rattle.programs.specs.Outlines.{outlined, outline_of}
 use Rattle.programs.specs.Faults.{path_clash, all_apart, IsClear}
-use Rattle.programs.proofs.Merging.{merged-map, merged-all, merged-length, rises_merged, rises_ascending}
+use Rattle.programs.proofs.Merging.{merged-map, merged-all, rises_merged, rises_ascending}
 use Rattle.programs.proofs.Nesting.{apart_in_order}
 use Rattle.programs.proofs.Projections.{rises_filter, rises_projected}
 use Rattle.voodoo_ops.specs.Attributes.{comes_before, projected, resized, upserted}
@@ -47,18 +45,6 @@ paths-moved p q (a ∷ attributes) = by (is_at_or_below a.0 p) (paths-moved p q 
     by true e = ap (λ (l : List Label). moved p q a.0 ∷ l) e
     by false e = e
 
-length_kept : (f : Label × ColumnValue → Bool) (attributes : Attributes) → length (filter f attributes) ≤ length attributes
-length_kept f attributes = omega (arith, length-filter_both f (λ t. not (f t)) (λ t. refl) attributes)
-
-few_moved : (p q : Label) (attributes : Attributes) → length (paths_of (moved_columns p q attributes)) ≤ length (paths_of attributes)
-few_moved p q attributes =
-    let kept : Attributes = filter (λ t. is_at_or_below t.0 p) attributes in
-    let now : Label × ColumnValue → Label × ColumnValue = λ t. (moved p q t.0, t.1) in
-    let first : length (paths_of (moved_columns p q attributes)) ≡ length (moved_columns p q attributes) = length-map (moved_columns p q attributes) (λ (a : Label × ColumnValue). a.0) in
-    let second : length (moved_columns p q attributes) ≡ length kept = length-map kept now in
-    let third : length (paths_of attributes) ≡ length attributes = length-map attributes (λ (a : Label × ColumnValue). a.0) in
-    omega (arith, length_kept (λ t. is_at_or_below t.0 p) attributes)
-
 pub project_seen : (n : ℕ) (p q : Label) (v : VectorValue) (w : Vector) (items : Attributes) → n ≡ v.length → items ≡ moved_columns p q v.attributes → seen v ≡ w → seen (vector_of n items) ≡ projected w p q
 project_seen n p q v w items e is same =
     ap (λ (l : Attributes). seen (vector_of n l)) is
@@ -71,7 +57,6 @@ project_shaped n p q v w items e is same s hp hq each clear =
     let names : paths_of items ≡ paths.projected p q (paths_of v.attributes) = ap (λ (l : Attributes). paths_of l) is ∙ paths-moved p q v.attributes in
     shaped_by n items
     (omega (arith, e, s.short))
-    (omega (arith, ap (λ (l : Attributes). length (paths_of l)) is, few_moved p q v.attributes, s.few))
     (subst (HaveLength n) (sym is) (All-map (λ a. length a.1.slots ≡ n) (λ t. (moved p q t.0, t.1)) (filter (λ t. is_at_or_below t.0 p) v.attributes) (All-filter (λ t. is_at_or_below t.0 p) (λ a. length a.1.slots ≡ n) v.attributes (subst (λ (k : ℕ). HaveLength k v.attributes) (sym e) s.lengths))))
     each
     (subst Rises (sym names) (rises_projected p q (outlined v.length (paths_of v.attributes)) hp hq (clear_shaped v s)))
@@ -114,16 +99,8 @@ paths-upserted : (p : Label) (c : ColumnValue) (attributes : Attributes) → pat
 paths-upserted p c attributes =
     merged-map (λ (t : Label × ColumnValue). t.0) earlier is_before (λ t u. refl) ((p, c) ∷ []) (others_of p attributes) ∙ ap (merged is_before (p ∷ [])) (paths-others p attributes)
 
-few_upserted : (p : Label) (c : ColumnValue) (attributes items : Attributes) → items ≡ merged earlier ((p, c) ∷ []) (others_of p attributes) → length (paths_of attributes) + 1 < 2 ^ 32 → length (paths_of items) < 2 ^ 32
-few_upserted p c attributes items is few =
-    let one : Attributes = (p, c) ∷ [] in
-    let first : length (paths_of items) ≡ length items = length-map items (λ (a : Label × ColumnValue). a.0) in
-    let second : length items ≡ length one + length (others_of p attributes) = ap (λ (l : Attributes). length l) is ∙ merged-length earlier one (others_of p attributes) in
-    let third : length (paths_of attributes) ≡ length attributes = length-map attributes (λ (a : Label × ColumnValue). a.0) in
-    omega (arith, length_kept (λ t. not (is_at_or_below t.0 p)) attributes)
-
-pub upsert_shaped : (n : ℕ) (p q : Label) (c : ColumnValue) (v : VectorValue) (a b : Vector) (items : Attributes) → n ≡ v.length → items ≡ merged earlier ((p, c) ∷ []) (others_of p v.attributes) → c.slots ≡ resized n (slots_of b.attributes q) → seen v ≡ a → IsShaped v → IsPath p → length (paths_of v.attributes) + 1 < 2 ^ 32 → path_clash (outline_of (upserted a p b q)) ≡ false → IsShaped (vector_of n items)
-upsert_shaped n p q c v a b items e is slots same s hp few clear =
+pub upsert_shaped : (n : ℕ) (p q : Label) (c : ColumnValue) (v : VectorValue) (a b : Vector) (items : Attributes) → n ≡ v.length → items ≡ merged earlier ((p, c) ∷ []) (others_of p v.attributes) → c.slots ≡ resized n (slots_of b.attributes q) → seen v ≡ a → IsShaped v → IsPath p → path_clash (outline_of (upserted a p b q)) ≡ false → IsShaped (vector_of n items)
+upsert_shaped n p q c v a b items e is slots same s hp clear =
     let names : paths_of items ≡ merged is_before (p ∷ []) (others p (paths_of v.attributes)) = ap (λ (l : Attributes). paths_of l) is ∙ paths-upserted p c v.attributes in
     let one : All IsPath (p ∷ []) = All-cons IsPath p [] hp (All-nil IsPath) in
     let rest : All IsPath (others p (paths_of v.attributes)) = All-filter (λ x. not (is_at_or_below x p)) IsPath (paths_of v.attributes) s.paths in
@@ -131,7 +108,6 @@ upsert_shaped n p q c v a b items e is slots same s hp few clear =
     let others_long : HaveLength n (others_of p v.attributes) = All-filter (λ t. not (is_at_or_below t.0 p)) (λ t. length t.1.slots ≡ n) v.attributes (subst (λ (k : ℕ). HaveLength k v.attributes) (sym e) s.lengths) in
     shaped_by n items
     (omega (arith, e, s.short))
-    (few_upserted p c v.attributes items is few)
     (subst (HaveLength n) (sym is) (merged-all (λ t. length t.1.slots ≡ n) earlier ((p, c) ∷ []) (others_of p v.attributes) first others_long))
     (subst (All IsPath) (sym names) (merged-all IsPath is_before (p ∷ []) (others p (paths_of v.attributes)) one rest))
     (subst Rises (sym names) (rises_merged (p ∷ []) (others p (paths_of v.attributes)) tt (rises_filter (λ x. not (is_at_or_below x p)) (outlined v.length (paths_of v.attributes)) (clear_shaped v s))))

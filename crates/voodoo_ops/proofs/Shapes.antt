@@ -1,5 +1,5 @@
 -- When attributes make a vector.
-use Rattle.std.proofs.Common.{◌≡◌, ℕ, ◌^◌, ◌<◌, ◌≤◌, Bool, true, false, ◌||◌, not, List, [], ◌∷◌, length, map, refl, sym, ap, ◌∙◌, subst}
+use Rattle.std.proofs.Common.{◌≡◌, ℕ, ◌^◌, ◌≤◌, Bool, true, false, ◌||◌, not, List, [], ◌∷◌, length, map, refl, sym, ap, ◌∙◌, subst}
 use Rattle.std.specs.Prelude.{All}
 use Rattle.std.specs.List.{list_any, AllPairs}
 use Rattle.std.proofs.lemmas.List.Elements.{All-nil, All-cons}
@@ -33,13 +33,12 @@ below_root [] e = All-nil IsBelowRoot
 below_root (p ∷ paths) e = All-cons IsBelowRoot p paths (or_false (is_root p) (list_any is_root paths) e) (below_root paths (or_later (is_root p) (list_any is_root paths) e))
 
 -- attributes in order, none of which is at the root or in another's way
-pub shaped_by : (n : ℕ) (attributes : List (Label × ColumnValue)) → n ≤ 2 ^ 22 → length (paths_of attributes) < 2 ^ 32 → HaveLength n attributes → All IsPath (paths_of attributes) → Rises (paths_of attributes) → path_clash (outline_of (seen (vector_of n attributes))) ≡ false → IsShaped (vector_of n attributes)
-shaped_by n attributes short few long paths rises clear =
+pub shaped_by : (n : ℕ) (attributes : List (Label × ColumnValue)) → n ≤ 2 ^ 22 → HaveLength n attributes → All IsPath (paths_of attributes) → Rises (paths_of attributes) → path_clash (outline_of (seen (vector_of n attributes))) ≡ false → IsShaped (vector_of n attributes)
+shaped_by n attributes short long paths rises clear =
     let clear_of : path_clash (outlined n (paths_of attributes)) ≡ false = ap (λ (l : List Label). path_clash (outlined n l)) (sym (paths-seen attributes)) ∙ clear in
     let chain = chain_without_clash (outlined n (paths_of attributes)) rises paths clear_of in
     record {
       short = short;
-      few = few;
       lengths = long;
       paths = paths;
       below_root = below_root (paths_of attributes) (or_false (list_any is_root (paths_of attributes)) (not (all_apart (paths_of attributes))) clear_of);
@@ -66,7 +65,6 @@ shaped_at n places v items e short is shaped =
     let same : paths_of items ≡ paths_of v.attributes = sym (paths-seen items) ∙ ap (λ (l : List Attribute). map (λ t. t.0) l) is ∙ paths-moved places (seen_attributes v.attributes) ∙ paths-seen v.attributes in
     record {
       short = short;
-      few = subst (λ (l : List Label). length l < 2 ^ 32) (sym same) shaped.few;
       lengths = subst (λ (k : ℕ). HaveLength k items) (sym e) (long_moved places items (seen_attributes v.attributes) is);
       paths = subst (All IsPath) (sym same) shaped.paths;
       below_root = subst (All IsBelowRoot) (sym same) shaped.below_root;

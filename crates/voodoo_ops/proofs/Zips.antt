@@ -1,5 +1,5 @@
 -- The attributes of two vectors as those of one.
-use Rattle.std.proofs.Common.{◌≡◌, ℕ, zero, suc, ◌+◌, ◌^◌, ◌<◌, ◌≤◌, min, true, false, List, [], ◌∷◌, ◌++◌, length, drop, get_or, refl, sym, ap, ◌∙◌, arith, append_assoc}
+use Rattle.std.proofs.Common.{◌≡◌, ℕ, zero, suc, ◌+◌, ◌<◌, ◌≤◌, min, true, false, List, [], ◌∷◌, ◌++◌, length, drop, get_or, refl, sym, ap, ◌∙◌, arith, append_assoc}
 use Rattle.std.specs.Prelude.{All}
 use Rattle.std.proofs.lemmas.List.{length-take, length-map}
 use Rattle.std.proofs.lemmas.List.Elements.{All-nil, All-cons, All-head, All-tail}
@@ -12,7 +12,7 @@ use Rattle.programs.specs.Vectors.{Attribute, Vector, cut_to, seen, seen_attribu
 use Rattle.programs.specs.Merges.{merged}
 use Rattle.programs.specs.Outlines.{outline_of}
 use Rattle.programs.specs.Faults.{path_clash}
-use Rattle.programs.proofs.Merging.{merged-map, merged-all, merged-length, next_first, next_second, rises_merged, rises_ascending}
+use Rattle.programs.proofs.Merging.{merged-map, merged-all, next_first, next_second, rises_merged, rises_ascending}
 use Rattle.voodoo_ops.specs.Attributes.{comes_before, zipped}
 use Rattle.voodoo_ops.specs.Columns.{earlier, fronts, front_column, no_attribute}
 use Rattle.voodoo_ops.proofs.Shapes.{shaped_by}
@@ -76,14 +76,13 @@ fronts_long n m [] h each = All-nil (λ a. length a.1.slots ≡ n)
 fronts_long n m (a ∷ attributes) h each =
     All-cons (λ b. length b.1.slots ≡ n) (a.0, front_column n a.1) (fronts n attributes) (omega (arith, length-take n a.1.slots, All-head (λ b. length b.1.slots ≡ m) a attributes each)) (fronts_long n m attributes h (All-tail (λ b. length b.1.slots ≡ m) a attributes each))
 
-pub both_shaped : (n : ℕ) (a b : VectorValue) → n ≡ min a.length b.length → length (paths_of a.attributes) + length (paths_of b.attributes) < 2 ^ 32 → IsShaped a → IsShaped b → path_clash (outline_of (zipped (seen a) (seen b))) ≡ false → IsShaped (vector_of n (both n a b))
-both_shaped n a b e few sa sb clear =
+pub both_shaped : (n : ℕ) (a b : VectorValue) → n ≡ min a.length b.length → IsShaped a → IsShaped b → path_clash (outline_of (zipped (seen a) (seen b))) ≡ false → IsShaped (vector_of n (both n a b))
+both_shaped n a b e sa sb clear =
     let is = paths-both n a b in
     let paths : All IsPath (merged is_before (paths_of a.attributes) (paths_of b.attributes)) = merged-all IsPath is_before (paths_of a.attributes) (paths_of b.attributes) sa.paths sb.paths in
     let rises = rises_merged (paths_of a.attributes) (paths_of b.attributes) (rises_ascending (paths_of a.attributes) sa.ascending) (rises_ascending (paths_of b.attributes) sb.ascending) in
     shaped_by n (both n a b)
     (omega (arith, e, sa.short))
-    (rw is (omega (arith, merged-length is_before (paths_of a.attributes) (paths_of b.attributes))))
     (merged-all (λ t. length t.1.slots ≡ n) earlier (fronts n a.attributes) (fronts n b.attributes) (fronts_long n a.length a.attributes (omega (arith, e)) sa.lengths) (fronts_long n b.length b.attributes (omega (arith, e)) sb.lengths))
     (rw is paths)
     (rw is rises)

@@ -28,9 +28,6 @@ use slot_wise::source::slot_of;
 use std::alloc::Global;
 use struct_vectors::{Column, StructVector};
 
-/// How many attributes a vector may have.
-const MOST_ATTRIBUTES: usize = (1 << 32) - 1;
-
 /// The vector that Project makes.
 pub(crate) fn project_made(
     alloc: Global,
@@ -90,7 +87,6 @@ fn push_moved(
     let Some(path) = moved_path(alloc, &v.paths()[k], p, q)? else {
         unreachable!()
     };
-    let _is_path = path.is_root();
     let column = v.columns()[k].copied(alloc)?;
     attributes.push((path, column))?;
     Ok(())
@@ -111,9 +107,6 @@ pub(crate) fn upsert_made(
     ensures { Exact seen result (Ok (upserted (known ((env_in made.now) a.now)) p.now (known ((env_in made.now) b.now)) q.now)) }
 {
     let v = vector(made, a);
-    if v.paths().len() >= MOST_ATTRIBUTES {
-        return Err(Stop::NoMemory);
-    }
     let n = v.len();
     let column = resized_column(alloc, attribute(made, b, q), n)?;
     let attributes = upserted_attributes(alloc, v, p, column)?;
@@ -148,7 +141,6 @@ fn upserted_attributes(
 {
     let mut attributes = other_attributes(alloc, v, p)?;
     let path = p.copied(alloc)?;
-    let _is_path = p.is_root();
     let place = count_before(attributes.as_slice(), p);
     attributes.insert(place, (path, column))?;
     Ok(attributes)

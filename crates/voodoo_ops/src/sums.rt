@@ -13,7 +13,7 @@ use crate::run::{RunRefusal, run_plain};
 use crate::{NoMemory, Results};
 use control_vectors::{ControlVector, Slot};
 use io_edge::Name;
-use key_paths::{Path, PathRefusal};
+use key_paths::Path;
 use programs::{FoldArgs, Op, Program, ProgramRefusal, Shape, Size, Statement};
 use std::alloc::{AllocError, Global};
 use struct_vectors::{Column, Store, StructVector};
@@ -66,19 +66,6 @@ fn add(to: &mut Vec<Statement>, name: Name, op: Op) -> Result<(), NoMemory>
     Ok(())
 }
 
-/// A path that is known to be one.
-fn path(alloc: Global, text: &str) -> Result<Path, NoMemory>
-    requires path { IsPath text.now }
-    requires short { length text.now < 2 ^ 32 }
-    ensures { IfOk result (λ p. p ≡ text.now) }
-{
-    match Path::read(alloc, text) {
-        Ok(p) => Ok(p),
-        Err(PathRefusal::NoMemory) => Err(AllocError),
-        Err(PathRefusal::Bad { .. }) => unreachable!(),
-    }
-}
-
 fn load(alloc: Global) -> Result<Op, NoMemory>
     ensures { IfOk result (λ op. op ≡ Op.Load (codes "t")) }
 {
@@ -92,7 +79,7 @@ fn range(alloc: Global) -> Result<Op, NoMemory>
 {
     Ok(Op::Range {
         size: Size::Of(Name::of(alloc, "t")?),
-        out: path(alloc, ".run")?,
+        out: Path::of(alloc, ".run")?,
         control: zeros(),
     })
 }
@@ -126,9 +113,9 @@ fn fold(alloc: Global) -> Result<Op, NoMemory>
 {
     Ok(Op::FoldSum(FoldArgs {
         a: Name::of(alloc, "z")?,
-        val: path(alloc, ".a")?,
-        run: path(alloc, ".run")?,
-        out: path(alloc, ".sum")?,
+        val: Path::of(alloc, ".a")?,
+        run: Path::of(alloc, ".run")?,
+        out: Path::of(alloc, ".sum")?,
     }))
 }
 
@@ -147,7 +134,7 @@ pub fn store_of_column(alloc: Global, numbers: &[i64]) -> Result<Store, NoMemory
     ensures fit { OnOk result (All (FitsSigned w64) numbers.now) }
 {
     let copies = copied_numbers(alloc, numbers)?;
-    let v = StructVector::of_column(alloc, path(alloc, ".a")?, Column::narrow(copies))?;
+    let v = StructVector::of_column(alloc, Path::of(alloc, ".a")?, Column::narrow(copies))?;
     let mut vectors = Vec::with_capacity(alloc, 1)?;
     vectors.push((Name::of(alloc, "t")?, v))?;
     Ok(Store::new(vectors))

@@ -17,11 +17,8 @@ use io_edge::Name;
 use key_paths::Path;
 use programs::ordered::takes_second;
 use slot_columns::Stop;
-use std::alloc::{AllocError, Global};
+use std::alloc::Global;
 use struct_vectors::{Column, StructVector};
-
-/// How many attributes a vector may have at most, and one more.
-const TOO_MANY: usize = 1 << 32;
 
 /// The vector that Zip makes.
 pub(crate) fn zip_made(alloc: Global, made: &Made, a: &Name, b: &Name) -> Result<StructVector, Stop>
@@ -42,9 +39,6 @@ pub(crate) fn zip(
     requires { path_clash (outline_of (zipped (seen a.now) (seen b.now))) ≡ false }
     ensures { IfOk result (λ v. seen v ≡ zipped (seen a.now) (seen b.now)) }
 {
-    if a.paths().len() + b.paths().len() >= TOO_MANY {
-        return Err(AllocError);
-    }
     let len = a.len().min(b.len());
     let attributes = merged_attributes(alloc, a, b, len)?;
     let v = StructVector::of_ordered(alloc, len, attributes)?;

@@ -1,8 +1,6 @@
-use Rattle.std.proofs.Common.{◌+◌, ◌<◌, ◌^◌, List, length, arith, ap, sym, ◌∙◌, Ok}
+use Rattle.std.proofs.Common.{ap, sym, ◌∙◌, Ok}
 use Rattle.std.specs.Prelude.{Result}
 use Rattle.control_vectors.specs.declared.Over.{Over}
-use Rattle.struct_vectors.specs.Vectors.{paths_of}
-use Rattle.programs.specs.Mentions.{Label}
 use Rattle.programs.specs.Vectors.{Vector, known, seen}
 use Rattle.voodoo_ops.specs.Attributes.{resized}
 use Rattle.voodoo_ops.specs.Envs.{env_in}
@@ -11,9 +9,8 @@ use Rattle.voodoo_ops.proofs.attributes.upsert_made.Goals as goal
 
 pub of_ordered-requires : goal.of_ordered-requires
 of_ordered-requires c =
-    let few : length (paths_of c.vector-v.result.now.attributes) + 1 < 2 ^ 32 = omega (arith, c.if-paths-ge-MOST_ATTRIBUTES.false, ap (λ (l : List Label). length l) c.paths.ensures.paths) in
     let slots = c.in_ok-column.ensures ∙ ap (resized c.len-n.result) c.attribute.ensures.slots in
-    upsert_shaped c.len-n.result c.args.p.now c.args.q.now c.in_ok-column.column c.vector-v.result.now (known (env_in c.args.made.now c.args.a.now)) (known (env_in c.args.made.now c.args.b.now)) c.in_ok-attributes.attributes.items c.len-n.ensures.len c.in_ok-attributes.ensures.upserted slots c.vector-v.ensures.vector c.vector-v.ensures.shaped c.in_ok-attributes.ensures.path few c.requires.clear
+    upsert_shaped c.len-n.result c.args.p.now c.args.q.now c.in_ok-column.column c.vector-v.result.now (known (env_in c.args.made.now c.args.a.now)) (known (env_in c.args.made.now c.args.b.now)) c.in_ok-attributes.attributes.items c.len-n.ensures.len c.in_ok-attributes.ensures.upserted slots c.vector-v.ensures.vector c.vector-v.ensures.shaped c.in_ok-attributes.ensures.path c.requires.clear
 
 pub returns : goal.returns
 returns c =

@@ -1,5 +1,5 @@
 use Rattle.voodoo_ops.proofs.Literals.{path_a}
 use Rattle.voodoo_ops.proofs.sums.store_of_column.Goals as goal
 
-pub path-requires-clause-path : goal.path-requires-clause-path
-path-requires-clause-path c = path_a
+pub of-requires : goal.of-requires
+of-requires c = path_a

@@ -1,4 +1,3 @@
-use Rattle.std.proofs.Common.{◌<◌, ◌^◌, length, arith}
 use Rattle.struct_vectors.proofs.ArrangeLaws.{shaped_of, arranged_of, refuses_clash, kept_apart, kept_lengths}
 use Rattle.struct_vectors.proofs.vectors.StructVector.new.Goals as goal
 
@@ -8,11 +7,10 @@ returns-in-Some-first_clash-clause-refused c =
 
 pub invariant_of-result : goal.invariant_of-result
 invariant_of-result c =
-    let xs = c.sort_by_path.new.attributes.items in
-    let few : length c.args.attributes.items < 2 ^ 32 = omega (arith, c.requires.few, c.args.attributes.ok) in (
+    let xs = c.sort_by_path.new.attributes.items in (
       kept_lengths xs c.in_ok-paths.paths.items c.in_ok-paths.columns.items c.in_ok-paths.ensures.paths c.in_ok-paths.ensures.columns,
       rw (kept_apart xs c.in_ok-paths.paths.items c.in_ok-paths.columns.items c.in_ok-paths.ensures.paths c.in_ok-paths.ensures.columns)
-          (shaped_of c.args.n c.args.attributes.items xs c.requires.short few c.requires.named (rw c.as_slice.ensures.value at c.in_default.ensures) c.sort_by_path.ensures.same c.sort_by_path.ensures.sorted (rw c.as_slice-2.ensures.value at c.in_default-first_clash.ensures)),
+          (shaped_of c.args.n c.args.attributes.items xs c.requires.short c.requires.paths c.requires.named (rw c.as_slice.ensures.value at c.in_default.ensures) c.sort_by_path.ensures.same c.sort_by_path.ensures.sorted (rw c.as_slice-2.ensures.value at c.in_default-first_clash.ensures)),
     )
 
 pub returns-clause-attributes : goal.returns-clause-attributes
@@ -24,6 +22,5 @@ returns-clause-attributes c =
 pub returns-clause-shaped : goal.returns-clause-shaped
 returns-clause-shaped c =
     let xs = c.sort_by_path.new.attributes.items in
-    let few : length c.args.attributes.items < 2 ^ 32 = omega (arith, c.requires.few, c.args.attributes.ok) in
     rw (kept_apart xs c.in_ok-paths.paths.items c.in_ok-paths.columns.items c.in_ok-paths.ensures.paths c.in_ok-paths.ensures.columns)
-    (shaped_of c.args.n c.args.attributes.items xs c.requires.short few c.requires.named (rw c.as_slice.ensures.value at c.in_default.ensures) c.sort_by_path.ensures.same c.sort_by_path.ensures.sorted (rw c.as_slice-2.ensures.value at c.in_default-first_clash.ensures))
+    (shaped_of c.args.n c.args.attributes.items xs c.requires.short c.requires.paths c.requires.named (rw c.as_slice.ensures.value at c.in_default.ensures) c.sort_by_path.ensures.same c.sort_by_path.ensures.sorted (rw c.as_slice-2.ensures.value at c.in_default-first_clash.ensures))
