@@ -14,7 +14,7 @@ use std::marker::Model;
 
 /// Distinct texts, ascending by bytes. The code of a text is its place among them, which is the number of texts below it:
 /// so codes compare as their texts do. Contracts see the list of the texts.
-#[derive(Debug, Drop)]
+#[derive(Drop)]
 pub struct Dictionary {
     texts: Vec<Name>,
 }

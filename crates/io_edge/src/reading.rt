@@ -9,7 +9,7 @@ use crate::{Failed, NoMemory, Shelf};
 use std::alloc::{AllocError, Global};
 
 /// Why a file wasn't read whole.
-#[derive(Clone, Copy, Debug, PartialEq, Eq)]
+#[derive(Clone, Copy)]
 pub enum ReadRefusal {
     /// The file is missing, or the outside failed.
     ReadFault,

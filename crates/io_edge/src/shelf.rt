@@ -7,11 +7,11 @@ ghost use Rattle.io_edge.specs.Faults.{Rose, HasCause};
 ghost use Rattle.io_edge.specs.Shelves.{FileMap, Lacks, Opens};
 
 /// The outside failed. What it failed at, the object's count of faults tells.
-#[derive(Clone, Copy, Debug, PartialEq, Eq)]
+#[derive(Clone, Copy)]
 pub struct Failed;
 
 /// Why a file wasn't opened.
-#[derive(Clone, Copy, Debug, PartialEq, Eq)]
+#[derive(Clone, Copy)]
 pub enum OpenRefusal {
     /// The shelf tells what it holds, and there is no file of that name.
     Missing,

@@ -4,7 +4,7 @@ use crate::listing::Listing;
 use io_edge::Name;
 
 /// The kind of a column's values. `CHAR` and `VARCHAR` are one kind.
-#[derive(Clone, Copy, Debug, PartialEq, Eq)]
+#[derive(Clone, Copy, PartialEq, Eq)]
 pub enum ColumnKind {
     /// `INTEGER`, `INT` or `BIGINT`.
     Integer,
@@ -15,7 +15,7 @@ pub enum ColumnKind {
 }
 
 /// A column as it is written. Places are bytes of the text, counted from 0.
-#[derive(Debug, Drop)]
+#[derive(Drop)]
 pub struct ColumnDef {
     /// The name, folded to lower case.
     pub name: Name,
@@ -31,7 +31,7 @@ pub struct ColumnDef {
 }
 
 /// A `PRIMARY KEY`, behind its column or as a part of its own.
-#[derive(Debug, Drop)]
+#[derive(Drop)]
 pub struct KeyDef {
     /// The name of the column, folded to lower case.
     pub column: Name,
@@ -42,7 +42,7 @@ pub struct KeyDef {
 }
 
 /// A `CREATE TABLE` as it is written.
-#[derive(Debug, Drop)]
+#[derive(Drop)]
 pub struct TableDef {
     /// The name, folded to lower case.
     pub name: Name,

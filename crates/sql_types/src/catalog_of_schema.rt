@@ -14,7 +14,7 @@ use sql_read::TableDef;
 use std::marker::Model;
 
 /// The tables of a database: at most 16, of at most 64 columns each, with names of their own, known keys, texts of 1 to 255 bytes and no column that may be null.
-#[derive(Debug, Drop)]
+#[derive(Drop)]
 pub struct Catalog {
     defs: Vec<TableDef>,
 }

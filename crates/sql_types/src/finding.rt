@@ -6,7 +6,7 @@ ghost use Rattle.sql_types.specs.Findings as spec;
 use crate::refusal::SchemaKind;
 
 /// What is wrong, and at which byte.
-#[derive(Clone, Copy, Debug)]
+#[derive(Clone, Copy)]
 pub struct Finding {
     pub at: u32,
     pub kind: SchemaKind,

@@ -7,7 +7,7 @@ use std::alloc::AllocError;
 use thiserror::Error;
 
 /// What is wrong with the definitions at a place, in the order that decides where two are wrong at one byte.
-#[derive(Clone, Copy, Debug, PartialEq, Eq)]
+#[derive(Clone, Copy, Debug)]
 pub enum SchemaKind {
     /// The name of a table that an earlier one has.
     TableTwice,

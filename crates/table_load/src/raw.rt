@@ -6,7 +6,7 @@ use std::marker::Model;
 /// The rows of a loaded table. Contracts see how many columns it has, and the list of its rows.
 ///
 /// Each column is kept as whole numbers: dates as day numbers, and texts as places in the list of the table's distinct texts.
-#[derive(Debug, Drop)]
+#[derive(Drop)]
 pub struct RawTable {
     pub(crate) columns: Vec<Vec<i64>>,
     pub(crate) are_texts: Vec<bool>,
