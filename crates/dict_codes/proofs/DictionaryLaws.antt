@@ -13,7 +13,8 @@ use Rattle.std.proofs.lemmas.List.Folds.{list_any_at, list_any_none}
 use Rattle.std.proofs.lemmas.List.Sorted.{searchable_from_sorted}
 use Rattle.std.proofs.lemmas.Map.Keys.{Less-from_sorted, sorted_from_all_adjacent}
 use Rattle.std.proofs.lemmas.Map.Text.{is_eq-slice_cmp}
-use Rattle.dict_codes.specs.Dictionaries.{by_bytes, is_among, is_below, IsAscending, rank_in}
+use Rattle.sql_values.specs.Texts.{by_bytes, is_below}
+use Rattle.dict_codes.specs.Dictionaries.{is_among, IsAscending, rank_in}
 
 pub lt_less : (c : Ordering) → is_lt c ≡ true → c ≡ Less
 lt_less Less h = refl

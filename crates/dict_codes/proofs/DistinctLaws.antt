@@ -15,7 +15,8 @@ use Rattle.std.proofs.lemmas.List.Sorted.{ranks_by, sorted_far}
 use Rattle.std.proofs.lemmas.Map.Text.{is_eq-slice_cmp}
 use Rattle.std.proofs.lemmas.Option.{slice_get-get_or}
 use Rattle.std.proofs.lemmas.Slice.Eq.{bytes_eq-Decides}
-use Rattle.dict_codes.specs.Dictionaries.{by_bytes, is_below, IsAscending}
+use Rattle.sql_values.specs.Texts.{by_bytes, is_below}
+use Rattle.dict_codes.specs.Dictionaries.{IsAscending}
 use Rattle.dict_codes.specs.Distinct.{is_new_text, is_other}
 use Rattle.dict_codes.proofs.DictionaryLaws.{lt_less}
 

@@ -3,7 +3,7 @@
 use Rattle.std.specs.Prelude.{◌≡◌, ℕ, Bool, true, List}
 use Rattle.std.specs.List.{AllPairs, count_by, list_any}
 use Rattle.std.specs.Str.{bytes_eq}
-pub use Rattle.sql_values.specs.Texts.{by_bytes, is_below}
+use Rattle.sql_values.specs.Texts.{by_bytes, is_below}
 use Rattle.dict_codes.specs.Ascending.{ascending}
 
 -- each text is below those behind it

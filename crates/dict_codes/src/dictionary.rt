@@ -5,7 +5,8 @@ ghost use Rattle.std.specs.Option.{option_map};
 ghost use Rattle.std.specs.List.{count_by};
 ghost use Rattle.std.specs.List.Sorted.{IsPermutation, IsSorted};
 ghost use Rattle.std.specs.Str.{bytes_eq};
-ghost use Rattle.dict_codes.specs.Dictionaries.{by_bytes, is_below, IsAscending, dictionary_of, rank_in, is_among};
+ghost use Rattle.sql_values.specs.Texts.{by_bytes, is_below};
+ghost use Rattle.dict_codes.specs.Dictionaries.{IsAscending, dictionary_of, rank_in, is_among};
 ghost use Rattle.dict_codes.specs.Distinct.{is_new_text};
 
 use io_edge::{Name, NoMemory};

@@ -9,7 +9,8 @@ use Rattle.sql_read.specs.declared.definition.ColumnDef.{ColumnDef}
 use Rattle.table_load.specs.Databases.{row_texts}
 use Rattle.table_load.specs.HeldColumns.{AreCells, IsCell, noted, value_of, values_of}
 use Rattle.table_load.specs.Tables.{first_other, is_same_name}
-use Rattle.table_load.specs.Values.{Value, field_value, field_values, text, text_field}
+use Rattle.sql_values.specs.Values.{Value, text}
+use Rattle.table_load.specs.Values.{field_value, field_values, text_field}
 use Rattle.table_load.specs.declared.refusal.DataKind.{DataKind}
 use Rattle.table_load.specs.declared.refusal.DataKind.TheVariants.{NotText, TextTooLong}
 use Rattle.std.proofs.lemmas.Bool.{le-ltb, lt-ltb}

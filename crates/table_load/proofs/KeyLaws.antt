@@ -2,14 +2,16 @@
 use Rattle.std.proofs.Common.{◌≡◌, ◌∙◌, ℕ, zero, suc, ◌+◌, ◌<◌, ◌≤◌, ℤ, pos, negsuc, Bool, true, false, cond, List, [], ◌∷◌, ◌++◌, length, map, take, get_or, Option, Some, None, refl, sym, ap, subst, inl, inr, ◌⊎◌, arith, add-one}
 use Rattle.std.specs.Prelude.{slice_get, IfSome}
 use Rattle.std.specs.Option.{option_map, option_or}
-use Rattle.std.specs.Ordering.{int_eq}
+use Rattle.std.specs.declared.cmp.Ordering.{Ordering}
+use Rattle.std.specs.declared.cmp.Ordering.TheVariants.{Less, Equal, Greater}
+use Rattle.std.specs.Ordering.{int_cmp, int_eq, is_eq}
 use Rattle.std.specs.List.{All, IsDistinct, list_any, position_from}
 use Rattle.std.specs.Str.{bytes_eq}
 use Rattle.std.specs.Cmp.Lexicographic.{nat_list_eq_equiv}
 use Rattle.std.proofs.lemmas.Bool.{cases_Bool, cases_lt}
 use Rattle.std.proofs.lemmas.Bool.Decides.{Decides-int_eq}
-use Rattle.std.proofs.lemmas.Cmp.{int_eq_equiv}
 use Rattle.std.proofs.lemmas.List.{map-append, take_all, take_more}
+use Rattle.std.proofs.lemmas.Map.Text.{is_eq-slice_cmp}
 use Rattle.std.proofs.lemmas.Map.Keys.{apart_from_distinct, IsDistinct-push}
 use Rattle.std.proofs.lemmas.Option.{slice_get-get_or}
 use Rattle.table_load.specs.Values.{same_value, value_at}
@@ -66,9 +68,17 @@ same_codes texts a b d ha hb = by_order (cases_lt a b) (cases_lt b a)
     by_order (inr l) (inl behind) = nat_list_eq_equiv.symm (get_or texts a []) (get_or texts b []) ∙ (apart_from_distinct bytes_eq texts b a [] d behind ha ∙ sym (not_equal (pos b) (pos a) (not_pos b a (λ e. omega (arith, e)))))
     by_order (inr l) (inr m) = let same : a ≡ b = omega arith in rw same (nat_list_eq_equiv.refl (get_or texts b []) ∙ sym ((Decides-int_eq (pos b) (pos b)).1 refl))
 
+same_numbers : (x y : ℤ) → is_eq (int_cmp x y) ≡ int_eq y x
+same_numbers x y = by_order (int_cmp x y) refl
+  where
+    by_order : (o : Ordering) → int_cmp x y ≡ o → is_eq o ≡ int_eq y x
+    by_order Equal e = let same : x ≡ y = grind arith in rw same (sym ((Decides-int_eq y y).1 refl))
+    by_order Less e = sym (not_equal y x (λ same. grind arith))
+    by_order Greater e = sym (not_equal y x (λ same. grind arith))
+
 pub same_cells : (texts : List (List ℕ)) (k : Bool) (z y : ℤ) → IsDistinct bytes_eq texts → IsCell (length texts) k z → IsCell (length texts) k y → same_value (value_of texts k z) (value_of texts k y) ≡ int_eq y z
-same_cells texts false z y d w v = int_eq_equiv.symm z y
-same_cells texts true (pos a) (pos b) d w v = same_codes texts a b d w v
+same_cells texts false z y d w v = same_numbers z y
+same_cells texts true (pos a) (pos b) d w v = is_eq-slice_cmp (get_or texts a []) (get_or texts b []) ∙ same_codes texts a b d w v
 same_cells texts true (pos a) (negsuc b) d w v = absurd v
 same_cells texts true (negsuc a) y d w v = absurd w
 

@@ -11,7 +11,7 @@ use Rattle.table_load.specs.Databases.{row_texts, rows_texts}
 use Rattle.table_load.specs.HeldColumns.{AreCells, AreColumns, noted, rows_held, values_of, with_cells}
 use Rattle.table_load.specs.Reading.{Agrees, HasNoted, key_twice, noted_places, ReadsRecord}
 use Rattle.table_load.specs.Tables.{as_table, record_row, RefusedBy, rows_after, then_rows}
-use Rattle.table_load.specs.Values.{Value}
+use Rattle.sql_values.specs.Values.{Value}
 use Rattle.table_load.proofs.KeyLaws.{agrees, KeysPlaced, noted_distinct, placed_more}
 use Rattle.table_load.proofs.Rowwise.{Grows, grown_length, noted-append, noted_grows, rows_more, rows_texts-more, with_cells-whole}
 

@@ -6,7 +6,8 @@ use Rattle.sql_read.specs.declared.definition.TableDef.{TableDef}
 use Rattle.std.proofs.lemmas.Bool.{eq-eqb, lt-leb}
 use Rattle.table_load.specs.declared.refusal.DataKind.{DataKind}
 use Rattle.table_load.specs.declared.refusal.DataKind.TheVariants.{KeyTwice}
-use Rattle.table_load.specs.Values.{Value, field_values}
+use Rattle.sql_values.specs.Values.{Value}
+use Rattle.table_load.specs.Values.{field_values}
 use Rattle.table_load.specs.Tables.{key_place, record_row, keyed_at, row_from, row_with_key, with_key}
 use Rattle.table_load.specs.HeldColumns.{AreCells, IsCell, value_of, values_of}
 use Rattle.table_load.specs.Reading.{Agrees, key_twice, ReadsFields, twice_at}

@@ -6,7 +6,7 @@ use Rattle.std.specs.Str.{bytes_eq}
 use Rattle.std.proofs.lemmas.Bool.{cases_lt}
 use Rattle.std.proofs.lemmas.List.{get_or_append_left, get_or_push, flat_map_more}
 use Rattle.std.proofs.lemmas.Option.{get_or_from_slice_get}
-use Rattle.table_load.specs.Values.{Value, number, text}
+use Rattle.sql_values.specs.Values.{Value, number, text, truth, null}
 use Rattle.table_load.specs.Databases.{row_texts, rows_texts}
 use Rattle.table_load.specs.HeldColumns.{AreCells, AreColumns, cells_at, code_of, IsCell, IsCode, note, noted, row_at, rows_held, rows_to, value_of, values_of, with_cells}
 
@@ -103,6 +103,8 @@ pub row_texts-append : (a b : List Value) → row_texts (a ++ b) ≡ row_texts a
 row_texts-append [] b = refl
 row_texts-append (number z ∷ a) b = row_texts-append a b
 row_texts-append (text t ∷ a) b = ap (λ l. t ∷ l) (row_texts-append a b)
+row_texts-append (truth c ∷ a) b = row_texts-append a b
+row_texts-append (null ∷ a) b = row_texts-append a b
 
 -- ---- columns with a row more
 

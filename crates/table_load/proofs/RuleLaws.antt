@@ -7,7 +7,7 @@ use Rattle.table_load.specs.declared.refusal.DataRefusal.{DataRefusal}
 use Rattle.table_load.specs.declared.refusal.DataRefusal.TheVariants.{Bad, NoMemory}
 use Rattle.table_load.specs.Tables.{record_row, rows_after, then_rows}
 use Rattle.table_load.specs.Rules.{AreRows, RefusesAt, TableRule}
-use Rattle.table_load.specs.Values.{Value}
+use Rattle.sql_values.specs.Values.{Value}
 
 abbrev Records : Type 0
 Records = List (List (List ℕ))

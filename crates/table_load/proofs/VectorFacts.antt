@@ -9,7 +9,8 @@ use Rattle.std.proofs.lemmas.List.{drop-drop, drop_all, drop_more, get_or-drop, 
 use Rattle.std.proofs.lemmas.List.Sorted.{Contains-permutation, IsPermutation-sym}
 use Rattle.std.proofs.lemmas.Map.Keys.{sorted_from_all_adjacent}
 use Rattle.dict_codes.specs.Ascending.{ascending}
-use Rattle.dict_codes.specs.Dictionaries.{by_bytes, rank_in}
+use Rattle.sql_values.specs.Texts.{by_bytes}
+use Rattle.dict_codes.specs.Dictionaries.{rank_in}
 use Rattle.dict_codes.proofs.AscendingLaws.{ascending-is}
 use Rattle.dict_codes.proofs.DictionaryLaws.{lt_less}
 use Rattle.sql_read.specs.declared.definition.ColumnDef.{ColumnDef}
@@ -18,7 +19,8 @@ use Rattle.struct_vectors.specs.Columns.{ColumnValue, narrow, some_slots}
 use Rattle.struct_vectors.specs.Vectors.{IsArranged, paths_of, vector_of, VectorValue}
 use Rattle.table_load.specs.Databases.{attributes_from, coded, column_of, vector_of_table}
 use Rattle.table_load.specs.HeldColumns.{AreColumns, IsCell, IsCode, row_at, rows_held, value_of}
-use Rattle.table_load.specs.Values.{Value, value_at}
+use Rattle.sql_values.specs.Values.{Value}
+use Rattle.table_load.specs.Values.{value_at}
 use Rattle.table_load.specs.Vectors.{attribute_in, attributes_in, cell_code, recoded}
 use Rattle.table_load.proofs.KeyLaws.{column_held, column_whole}
 use Rattle.table_load.proofs.Rowwise.{length-rows_to}
@@ -51,16 +53,16 @@ pub recoded_plain : (codes cells : List ℤ) → cells ≡ recoded codes false c
 recoded_plain codes [] = refl
 recoded_plain codes (z ∷ zs) = ap (λ l. z ∷ l) (recoded_plain codes zs)
 
-code_same : (dictionary texts : List (List ℕ)) (z : ℤ) → IsCode (length texts) z → coded dictionary (value_of texts true z) ≡ cell_code (map (λ t. pos (rank_in dictionary t)) texts) true z
-code_same dictionary texts (pos c) h = sym (get_or-map (λ t. pos (rank_in dictionary t)) texts c [] (pos 0) h)
+code_same : (dictionary texts : List (List ℕ)) (z : ℤ) → IsCode (length texts) z → coded dictionary (value_of texts true z) ≡ Some (cell_code (map (λ t. pos (rank_in dictionary t)) texts) true z)
+code_same dictionary texts (pos c) h = ap Some (sym (get_or-map (λ t. pos (rank_in dictionary t)) texts c [] (pos 0) h))
 code_same dictionary texts (negsuc c) h = absurd h
 
-cell_same : (dictionary texts : List (List ℕ)) (k : Bool) (z : ℤ) → IsCell (length texts) k z → coded dictionary (value_of texts k z) ≡ cell_code (map (λ t. pos (rank_in dictionary t)) texts) k z
+cell_same : (dictionary texts : List (List ℕ)) (k : Bool) (z : ℤ) → IsCell (length texts) k z → coded dictionary (value_of texts k z) ≡ Some (cell_code (map (λ t. pos (rank_in dictionary t)) texts) k z)
 cell_same dictionary texts true z h = code_same dictionary texts z h
 cell_same dictionary texts false z h = refl
 
 slots_same : (dictionary texts : List (List ℕ)) (k : Bool) (cells : List ℤ) → All (IsCell (length texts) k) cells
-    → map (λ v. Some (coded dictionary v)) (map (value_of texts k) cells) ≡ some_slots (recoded (map (λ t. pos (rank_in dictionary t)) texts) k cells)
+    → map (coded dictionary) (map (value_of texts k) cells) ≡ some_slots (recoded (map (λ t. pos (rank_in dictionary t)) texts) k cells)
 slots_same dictionary texts k [] h = refl
 slots_same dictionary texts k (z ∷ zs) h = rw (cell_same dictionary texts k z (h 0 z (omega arith)), slots_same dictionary texts k zs (λ i d l. h (suc i) d (omega arith))) refl
 
@@ -72,9 +74,9 @@ column_same : (dictionary texts : List (List ℕ)) (n j : ℕ) (ks : List Bool) 
     → column_of dictionary (rows_held texts ks cs n) j ≡ record { slots = some_slots (recoded (map (λ t. pos (rank_in dictionary t)) texts) (get_or ks j false) (get_or cs j [])); form = narrow }
 column_same dictionary texts n j ks cs w h =
     let rows = rows_held texts ks cs n in
-    let slots : map (λ row. Some (coded dictionary (value_at j row))) rows ≡ some_slots (recoded (map (λ t. pos (rank_in dictionary t)) texts) (get_or ks j false) (get_or cs j [])) =
-    sym (map_map (λ v. Some (coded dictionary v)) (value_at j) rows)
-    ∙ ap (map (λ v. Some (coded dictionary v))) (column_held texts (length texts) n j ks cs w h)
+    let slots : map (λ row. coded dictionary (value_at j row)) rows ≡ some_slots (recoded (map (λ t. pos (rank_in dictionary t)) texts) (get_or ks j false) (get_or cs j [])) =
+    sym (map_map (coded dictionary) (value_at j) rows)
+    ∙ ap (map (coded dictionary)) (column_held texts (length texts) n j ks cs w h)
     ∙ slots_same dictionary texts (get_or ks j false) (get_or cs j []) (column_whole (length texts) n j ks cs w h).1
     in
     rw slots refl

@@ -1,18 +1,23 @@
 -- The database of some tables: a vector for each table, and the dictionary of all their texts. In a vector a text is its code there.
-use Rattle.std.specs.Prelude.{ℕ, ◌+◌, ℤ, pos, List, [], ◌∷◌, length, map, flat_map, Some}
+use Rattle.std.specs.Prelude.{ℕ, ◌+◌, pos, true, false, List, [], ◌∷◌, length, map, flat_map, Some, None}
+use Rattle.control_vectors.specs.Slots.{Slot}
 use Rattle.dict_codes.specs.Ascending.{ascending}
-use Rattle.dict_codes.specs.Dictionaries.{by_bytes, dictionary_of, rank_in}
+use Rattle.sql_values.specs.Texts.{by_bytes}
+use Rattle.dict_codes.specs.Dictionaries.{dictionary_of, rank_in}
 use Rattle.sql_read.specs.declared.definition.ColumnDef.{ColumnDef}
 use Rattle.sql_read.specs.declared.definition.TableDef.{TableDef}
 use Rattle.struct_vectors.specs.Columns.{ColumnValue, narrow}
 use Rattle.struct_vectors.specs.Vectors.{VectorValue, vector_of}
-use Rattle.table_load.specs.Values.{Value, Table, number, text, value_at}
+use Rattle.sql_values.specs.Values.{Value, number, text, truth, null}
+use Rattle.table_load.specs.Values.{Table, value_at}
 
 -- the texts of a row, of rows, and of tables, in order
 abbrev pub row_texts : List Value → List (List ℕ)
 row_texts [] = []
 row_texts (number z ∷ vs) = row_texts vs
 row_texts (text t ∷ vs) = t ∷ row_texts vs
+row_texts (truth b ∷ vs) = row_texts vs
+row_texts (null ∷ vs) = row_texts vs
 
 abbrev pub rows_texts : List (List Value) → List (List ℕ)
 rows_texts rows = flat_map row_texts rows
@@ -20,14 +25,17 @@ rows_texts rows = flat_map row_texts rows
 abbrev pub tables_texts : List Table → List (List ℕ)
 tables_texts tables = flat_map (λ t. rows_texts t.rows) tables
 
--- a value as the number that a vector keeps
-abbrev pub coded : List (List ℕ) → Value → ℤ
-coded dictionary (number z) = z
-coded dictionary (text t) = pos (rank_in dictionary t)
+-- a value as the slot that a vector has for it: a number itself, a text its code, false 0 and true 1; a null is an empty slot
+abbrev pub coded : List (List ℕ) → Value → Slot
+coded dictionary (number z) = Some z
+coded dictionary (text t) = Some (pos (rank_in dictionary t))
+coded dictionary (truth false) = Some (pos 0)
+coded dictionary (truth true) = Some (pos 1)
+coded dictionary null = None
 
 -- a column of some rows, counted from 0
 abbrev pub column_of : List (List ℕ) → List (List Value) → ℕ → ColumnValue
-column_of dictionary rows j = record { slots = map (λ row. Some (coded dictionary (value_at j row))) rows; form = narrow }
+column_of dictionary rows j = record { slots = map (λ row. coded dictionary (value_at j row)) rows; form = narrow }
 
 -- the path of a column: a dot and its name
 abbrev pub path_of : ColumnDef → List ℕ

@@ -4,7 +4,7 @@ use Rattle.std.specs.List.{All, list_any}
 use Rattle.std.specs.Str.{bytes_eq}
 use Rattle.sql_read.specs.declared.definition.ColumnDef.{ColumnDef}
 use Rattle.sql_types.specs.Catalog.{is_text}
-use Rattle.table_load.specs.Values.{Value, number, text}
+use Rattle.sql_values.specs.Values.{Value, number, text}
 use Rattle.table_load.specs.Databases.{rows_texts}
 
 -- ---- texts, each once, in the order of their first places

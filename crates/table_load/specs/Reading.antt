@@ -7,7 +7,7 @@ use Rattle.table_load.specs.declared.refusal.DataRefusal.{DataRefusal}
 use Rattle.table_load.specs.declared.refusal.DataRefusal.TheVariants as refusal
 use Rattle.table_load.specs.declared.fields.FieldRefusal.{FieldRefusal}
 use Rattle.table_load.specs.declared.fields.FieldRefusal.TheVariants as field
-use Rattle.table_load.specs.Values.{Value}
+use Rattle.sql_values.specs.Values.{Value}
 use Rattle.table_load.specs.Tables.{row_with_key}
 use Rattle.table_load.specs.HeldColumns.{AreCells, IsCell, noted, value_of, values_of}
 

@@ -5,7 +5,7 @@ use Rattle.table_load.specs.declared.refusal.DataKind.{DataKind}
 use Rattle.table_load.specs.declared.refusal.DataRefusal.{DataRefusal}
 use Rattle.table_load.specs.declared.refusal.DataRefusal.TheVariants.{Bad, NoMemory}
 use Rattle.table_load.specs.Tables.{record_row, rows_after}
-use Rattle.table_load.specs.Values.{Value}
+use Rattle.sql_values.specs.Values.{Value}
 
 -- a row for each record: record k, counted from 0, is read as row k, where none of the rows before it has its key
 pub record AreRows (t : TableDef) (records : List (List (List ℕ))) (rows : List (List Value)) : Type 0 where

@@ -13,7 +13,8 @@ use Rattle.table_load.specs.declared.refusal.DataKind.TheVariants.{Header, TooMa
 use Rattle.table_load.specs.declared.refusal.DataRefusal.{DataRefusal}
 use Rattle.table_load.specs.declared.refusal.DataRefusal.TheVariants.{Bad, NoMemory}
 use Rattle.table_load.specs.Records.{records_of}
-use Rattle.table_load.specs.Values.{Value, Table, field_values, same_value, value_at}
+use Rattle.sql_values.specs.Values.{Value}
+use Rattle.table_load.specs.Values.{Table, field_values, same_value, value_at}
 
 -- ---- the header
 

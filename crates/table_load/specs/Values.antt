@@ -1,33 +1,28 @@
--- The values of a table, and what a column reads a field as.
-use Rattle.std.specs.Prelude.{Bool, false, ℕ, ℤ, pos, List, [], ◌∷◌, length, Option, Some, None, Result, Ok, Err, if◌then◌else◌, nat_lt, slice_index_or}
-use Rattle.std.specs.Ordering.{int_eq}
-use Rattle.std.specs.Str.{bytes_eq, is_utf8}
+-- Tables, and what a column reads a field as: a whole number, a date as its day number from 1970-01-01 on, or a text.
+use Rattle.std.specs.Prelude.{Bool, ℕ, ℤ, List, [], ◌∷◌, length, Option, Some, None, Result, Ok, Err, if◌then◌else◌, nat_lt, slice_index_or}
+use Rattle.std.specs.Ordering.{is_eq}
+use Rattle.std.specs.Str.{is_utf8}
 use Rattle.civil_days.specs.Dates.{day_number}
 use Rattle.sql_read.specs.declared.definition.ColumnKind.{ColumnKind}
 use Rattle.sql_read.specs.declared.definition.ColumnKind.TheVariants as kind
 use Rattle.sql_read.specs.declared.definition.ColumnDef.{ColumnDef}
+use Rattle.sql_values.specs.Values.{Value, number, text, null, by_value}
 use Rattle.table_load.specs.declared.refusal.DataKind.{DataKind}
 use Rattle.table_load.specs.declared.refusal.DataKind.TheVariants.{NotDate, NotText, TextTooLong}
 use Rattle.table_load.specs.Fields.{integer_value}
-
--- a whole number, also a date as its day number from 1970-01-01 on, or a text
-pub data Value : Type 0 where
-  number : ℤ → Value
-  text : List ℕ → Value
 
 -- a table: how many columns it has, and its rows (SQL-92, 4.9 "Tables"), in the order of the file
 pub record Table : Type 0 where
   pub degree : ℕ
   pub rows : List (List Value)
 
+-- whether neither of two values is below the other
 abbrev pub same_value : Value → Value → Bool
-same_value (number x) (number y) = int_eq x y
-same_value (text a) (text b) = bytes_eq a b
-same_value x y = false
+same_value a b = is_eq (by_value a b)
 
--- a row's value in a column, counted from 0
+-- a row's value in a column, counted from 0; null where it has none
 abbrev pub value_at : ℕ → List Value → Value
-value_at j row = slice_index_or row j (number (pos 0))
+value_at j row = slice_index_or row j null
 
 abbrev pub integer_field : Result ℤ DataKind → Result Value DataKind
 integer_field (Ok z) = Ok (number z)

@@ -8,7 +8,7 @@ ghost use Rattle.table_load.specs.Databases.{row_texts};
 ghost use Rattle.table_load.specs.HeldColumns.{noted, text_columns, values_of};
 ghost use Rattle.table_load.specs.Reading.{Agrees, HasNoted, key_twice, ReadsRecord};
 ghost use Rattle.table_load.specs.Tables.{key_place, record_row};
-ghost use Rattle.table_load.specs.Values.{Value};
+ghost use Rattle.sql_values.specs.Values.{Value};
 
 use crate::fields::read_fields;
 use crate::keys::key_twice;

@@ -3,7 +3,7 @@
 ghost use Rattle.std.specs.Prelude.{◌≡◌, ◌≤◌, ◌<◌, ◌^◌, ◌++◌, ℕ, true, [], ◌∷◌, length, map, IfOk};
 ghost use Rattle.std.specs.List.{All};
 ghost use Rattle.dict_codes.specs.Ascending.{ascending};
-ghost use Rattle.dict_codes.specs.Dictionaries.{by_bytes};
+ghost use Rattle.sql_values.specs.Texts.{by_bytes};
 ghost use Rattle.sql_read.specs.Forms.{is_name, IsFormed, IsNamed};
 ghost use Rattle.sql_types.specs.Catalog.{findings};
 ghost use Rattle.struct_vectors.specs.Vectors.{HaveLength, paths_of, vector_of};

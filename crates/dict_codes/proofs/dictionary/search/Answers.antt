@@ -1,6 +1,6 @@
 use Rattle.std.proofs.Common.{rules}
 use Rattle.std.proofs.lemmas.Fn.{always_returns_same}
-use Rattle.dict_codes.specs.Dictionaries.{by_bytes}
+use Rattle.sql_values.specs.Texts.{by_bytes}
 use Rattle.dict_codes.proofs.DictionaryLaws.{found_at, missing_at, sorted_from_ascending}
 use Rattle.dict_codes.proofs.dictionary.search.Goals as goal
 

@@ -2,7 +2,7 @@ use Rattle.std.proofs.Common.{◌≡◌, rules}
 use Rattle.std.specs.Ordering.{is_lt}
 use Rattle.std.proofs.lemmas.Cmp.{nat_list_cmp_total}
 use Rattle.std.proofs.lemmas.List.Sorted.{ranks_by, answers_always}
-use Rattle.dict_codes.specs.Dictionaries.{by_bytes}
+use Rattle.sql_values.specs.Texts.{by_bytes}
 use Rattle.dict_codes.proofs.dictionary.sort.Goals as goal
 
 pub returns-clause-sorted : goal.returns-clause-sorted
