@@ -6,7 +6,7 @@ use std::alloc::AllocError;
 use thiserror::Error;
 
 /// What is wrong with a record or a field.
-#[derive(Clone, Copy, Debug, PartialEq, Eq)]
+#[derive(Clone, Copy, Debug)]
 pub enum DataKind {
     /// The header is missing, has another number of fields than the table has columns, or another name in a column.
     Header,
