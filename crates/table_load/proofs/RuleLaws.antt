@@ -6,7 +6,7 @@ use Rattle.table_load.specs.declared.refusal.DataKind.{DataKind}
 use Rattle.table_load.specs.declared.refusal.DataRefusal.{DataRefusal}
 use Rattle.table_load.specs.declared.refusal.DataRefusal.TheVariants.{Bad, NoMemory}
 use Rattle.table_load.specs.Tables.{record_row, rows_after, then_rows}
-use Rattle.table_load.specs.Rules.{AreRows, RefusesAt, TableRule}
+use Rattle.table_load.specs.Rules.{AreRows, OneAnswer, RefusesAt, TableRule}
 use Rattle.sql_values.specs.Values.{Value}
 
 abbrev Records : Type 0
@@ -97,3 +97,44 @@ from_none t records (Err (Bad n column kind)) m = (
 
 pub table_rule : TableRule
 table_rule t records = from_none t records (rows_after t [] records) (decides t [] records)
+
+-- ---- what fits the rule is the answer
+
+-- the row of the first record, and the rest after it
+first_read : (t : TableDef) (seen : Rows) (r : List (List ℕ)) (records : Records) (row : List Value) (new : Rows) → After t seen (r ∷ records) (row ∷ new) → record_row t seen r ≡ Ok row
+first_read t seen r records row new h = ap (λ (s : Rows). record_row t s r) (sym (append-nil seen)) ∙ h.each 0 (omega arith)
+
+rest_after : (t : TableDef) (seen : Rows) (r : List (List ℕ)) (records : Records) (row : List Value) (new : Rows) → After t seen (r ∷ records) (row ∷ new) → After t (seen ++ row ∷ []) records new
+rest_after t seen r records row new h = record {
+  as_many = omega (arith, h.as_many);
+  each = λ k l. ap (λ (s : Rows). record_row t s (get_or records k [])) (append_assoc seen (row ∷ []) (take k new)) ∙ h.each (suc k) (omega arith);
+}
+
+made_is : (t : TableDef) (seen : Rows) (records : Records) (new : Rows) → After t seen records new → rows_after t seen records ≡ Ok (seen ++ new)
+unfolding rows_after
+made_is t seen [] [] h = ap (λ (s : Rows). Ok s) (sym (append-nil seen))
+made_is t seen [] (row ∷ new) h = absurd (omega (arith, h.as_many))
+made_is t seen (r ∷ records) [] h = absurd (omega (arith, h.as_many))
+made_is t seen (r ∷ records) (row ∷ new) h =
+    rw (first_read t seen r records row new h) (made_is t (seen ++ row ∷ []) records new (rest_after t seen r records row new h) ∙ ap (λ (s : Rows). Ok s) (append_assoc seen (row ∷ []) new))
+
+stopped_is : (t : TableDef) (seen : Rows) (records : Records) (place : ℕ) (new : Rows) (column : ℕ) (kind : DataKind) → place < length records → After t seen (take place records) new
+    → record_row t (seen ++ new) (get_or records place []) ≡ Err (column, kind) → rows_after t seen records ≡ Err (Bad (length seen + place + 1) column kind)
+unfolding rows_after
+stopped_is t seen [] place new column kind l h e = absurd (omega arith)
+stopped_is t seen (r ∷ records) zero (row ∷ new) column kind l h e = absurd (omega (arith, h.as_many))
+stopped_is t seen (r ∷ records) zero [] column kind l h e =
+    let here : record_row t seen r ≡ Err (column, kind) = ap (λ (s : Rows). record_row t s r) (sym (append-nil seen)) ∙ e in
+    rw here (ap (λ n. Err (Bad n column kind)) (omega arith))
+stopped_is t seen (r ∷ records) (suc place) [] column kind l h e = absurd (omega (arith, h.as_many))
+stopped_is t seen (r ∷ records) (suc place) (row ∷ new) column kind l h e =
+    let later = ap (λ (s : Rows). record_row t s (get_or records place [])) (append_assoc seen (row ∷ []) new) ∙ e in
+    rw (first_read t seen r (take place records) row new h)
+    (stopped_is t (seen ++ row ∷ []) records place new column kind (omega arith) (rest_after t seen r (take place records) row new h) later
+    ∙ ap (λ n. Err (Bad n column kind)) (omega (arith, length-append seen (row ∷ []))))
+
+pub one_answer : OneAnswer
+one_answer t records (Ok rows) m = made_is t [] records rows (record { as_many = m.as_many; each = m.each })
+one_answer t records (Err NoMemory) m = absurd m
+one_answer t records (Err (Bad n column kind)) (k, number, m) =
+    stopped_is t [] records k m.rows column kind m.within (record { as_many = m.before.as_many; each = m.before.each }) m.refused ∙ ap (λ i. Err (Bad i column kind)) (omega (arith, number))

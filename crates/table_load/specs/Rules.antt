@@ -1,5 +1,5 @@
 -- A table by rules: which records make which rows, and which record is the first that is refused. Each stands beside the answer for each file, as a law.
-use Rattle.std.specs.Prelude.{◌≡◌, ℕ, ◌+◌, ◌<◌, List, [], length, take, slice_index_or, Ok, Err, MatchResult}
+use Rattle.std.specs.Prelude.{◌≡◌, ℕ, ◌+◌, ◌<◌, List, [], length, take, slice_index_or, Result, Ok, Err, MatchResult}
 use Rattle.sql_read.specs.declared.definition.TableDef.{TableDef}
 use Rattle.table_load.specs.declared.refusal.DataKind.{DataKind}
 use Rattle.table_load.specs.declared.refusal.DataRefusal.{DataRefusal}
@@ -27,3 +27,7 @@ RefusesAt t records (Bad n column kind) = (k : ℕ) × (n ≡ k + 1) × IsFirstR
 -- the records of a table make rows, or the first that is refused decides
 abbrev pub TableRule : Type 0
 TableRule = (t : TableDef) (records : List (List (List ℕ))) → MatchResult (rows_after t [] records) (AreRows t records) (RefusesAt t records)
+
+-- what fits the rule is the answer: so records make one list of rows, or have one first refusal, and never both
+abbrev pub OneAnswer : Type 0
+OneAnswer = (t : TableDef) (records : List (List (List ℕ))) (answer : Result (List (List Value)) DataRefusal) → MatchResult answer (AreRows t records) (RefusesAt t records) → rows_after t [] records ≡ answer

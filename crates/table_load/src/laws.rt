@@ -1,8 +1,10 @@
 //! The laws of tables, each stated once, as a contract.
 
-ghost use Rattle.table_load.specs.Rules.{TableRule};
+ghost use Rattle.table_load.specs.Rules.{OneAnswer, TableRule};
 
-/// The records behind a header make rows, each by its own fields and the keys of the rows before it; or the first that is refused decides.
+/// The records behind a header make rows, each by its own fields and the keys of the rows before it; or the first that is refused decides. And
+/// what fits this rule is the answer.
 pub fn table_rule()
-    ensures { TableRule }
+    ensures rule { TableRule }
+    ensures one { OneAnswer }
 {}
