@@ -6,10 +6,10 @@ use Rattle.std.proofs.Math.Seq.{drop-cons}
 use Rattle.std.proofs.lemmas.List.{drop_all, drop_more, map-append}
 use Rattle.csv.specs.Records.{field_at}
 use Rattle.sql_read.specs.declared.definition.ColumnDef.{ColumnDef}
+use Rattle.sql_values.specs.Values.{Value, text}
 use Rattle.table_load.specs.Databases.{row_texts}
 use Rattle.table_load.specs.HeldColumns.{AreCells, IsCell, noted, value_of, values_of}
 use Rattle.table_load.specs.Tables.{first_other, is_same_name}
-use Rattle.sql_values.specs.Values.{Value, text}
 use Rattle.table_load.specs.Values.{field_value, field_values, text_field}
 use Rattle.table_load.specs.declared.refusal.DataKind.{DataKind}
 use Rattle.table_load.specs.declared.refusal.DataKind.TheVariants.{NotText, TextTooLong}

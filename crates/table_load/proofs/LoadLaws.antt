@@ -4,6 +4,7 @@ use Rattle.std.specs.Prelude.{IfSome}
 use Rattle.std.specs.List.{IsDistinct}
 use Rattle.std.specs.Str.{bytes_eq}
 use Rattle.sql_read.specs.declared.definition.TableDef.{TableDef}
+use Rattle.sql_values.specs.Values.{Value}
 use Rattle.table_load.specs.declared.refusal.DataKind.{DataKind}
 use Rattle.table_load.specs.declared.refusal.DataRefusal.{DataRefusal}
 use Rattle.table_load.specs.declared.refusal.DataRefusal.TheVariants as refusal
@@ -11,7 +12,6 @@ use Rattle.table_load.specs.Databases.{row_texts, rows_texts}
 use Rattle.table_load.specs.HeldColumns.{AreCells, AreColumns, noted, rows_held, values_of, with_cells}
 use Rattle.table_load.specs.Reading.{Agrees, HasNoted, key_twice, noted_places, ReadsRecord}
 use Rattle.table_load.specs.Tables.{as_table, record_row, RefusedBy, rows_after, then_rows}
-use Rattle.sql_values.specs.Values.{Value}
 use Rattle.table_load.proofs.KeyLaws.{agrees, KeysPlaced, noted_distinct, placed_more}
 use Rattle.table_load.proofs.Rowwise.{Grows, grown_length, noted-append, noted_grows, rows_more, rows_texts-more, with_cells-whole}
 

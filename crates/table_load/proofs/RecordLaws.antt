@@ -4,9 +4,9 @@ use Rattle.std.specs.Prelude.{slice_get, unwrap_or}
 use Rattle.std.specs.Option.{option_map}
 use Rattle.sql_read.specs.declared.definition.TableDef.{TableDef}
 use Rattle.std.proofs.lemmas.Bool.{eq-eqb, lt-leb}
+use Rattle.sql_values.specs.Values.{Value}
 use Rattle.table_load.specs.declared.refusal.DataKind.{DataKind}
 use Rattle.table_load.specs.declared.refusal.DataKind.TheVariants.{KeyTwice}
-use Rattle.sql_values.specs.Values.{Value}
 use Rattle.table_load.specs.Values.{field_values}
 use Rattle.table_load.specs.Tables.{key_place, record_row, keyed_at, row_from, row_with_key, with_key}
 use Rattle.table_load.specs.HeldColumns.{AreCells, IsCell, value_of, values_of}

@@ -2,12 +2,12 @@
 use Rattle.std.proofs.Common.{◌≡◌, ◌∙◌, ℕ, zero, suc, ◌+◌, ◌<◌, List, [], ◌∷◌, ◌++◌, length, take, get_or, Result, Ok, Err, refl, sym, ap, subst, arith, append_assoc, append-nil, length-append}
 use Rattle.std.specs.Prelude.{MatchResult}
 use Rattle.sql_read.specs.declared.definition.TableDef.{TableDef}
+use Rattle.sql_values.specs.Values.{Value}
 use Rattle.table_load.specs.declared.refusal.DataKind.{DataKind}
 use Rattle.table_load.specs.declared.refusal.DataRefusal.{DataRefusal}
 use Rattle.table_load.specs.declared.refusal.DataRefusal.TheVariants.{Bad, NoMemory}
 use Rattle.table_load.specs.Tables.{record_row, rows_after, then_rows}
 use Rattle.table_load.specs.Rules.{AreRows, OneAnswer, RefusesAt, TableRule}
-use Rattle.sql_values.specs.Values.{Value}
 
 abbrev Records : Type 0
 Records = List (List (List ℕ))

@@ -9,17 +9,17 @@ use Rattle.std.proofs.lemmas.List.{drop-drop, drop_all, drop_more, get_or-drop, 
 use Rattle.std.proofs.lemmas.List.Sorted.{Contains-permutation, IsPermutation-sym}
 use Rattle.std.proofs.lemmas.Map.Keys.{sorted_from_all_adjacent}
 use Rattle.dict_codes.specs.Ascending.{ascending}
-use Rattle.sql_values.specs.Texts.{by_bytes}
 use Rattle.dict_codes.specs.Dictionaries.{rank_in}
 use Rattle.dict_codes.proofs.AscendingLaws.{ascending-is}
 use Rattle.dict_codes.proofs.DictionaryLaws.{lt_less}
 use Rattle.sql_read.specs.declared.definition.ColumnDef.{ColumnDef}
 use Rattle.sql_read.specs.declared.definition.TableDef.{TableDef}
+use Rattle.sql_values.specs.Texts.{by_bytes}
+use Rattle.sql_values.specs.Values.{Value}
 use Rattle.struct_vectors.specs.Columns.{ColumnValue, narrow, some_slots}
 use Rattle.struct_vectors.specs.Vectors.{IsArranged, paths_of, vector_of, VectorValue}
 use Rattle.table_load.specs.Databases.{attributes_from, coded, column_of, vector_of_table}
 use Rattle.table_load.specs.HeldColumns.{AreColumns, IsCell, IsCode, row_at, rows_held, value_of}
-use Rattle.sql_values.specs.Values.{Value}
 use Rattle.table_load.specs.Values.{value_at}
 use Rattle.table_load.specs.Vectors.{attribute_in, attributes_in, cell_code, recoded}
 use Rattle.table_load.proofs.KeyLaws.{column_held, column_whole}

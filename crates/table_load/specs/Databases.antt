@@ -2,13 +2,13 @@
 use Rattle.std.specs.Prelude.{ℕ, ◌+◌, pos, true, false, List, [], ◌∷◌, length, map, flat_map, Some, None}
 use Rattle.control_vectors.specs.Slots.{Slot}
 use Rattle.dict_codes.specs.Ascending.{ascending}
-use Rattle.sql_values.specs.Texts.{by_bytes}
 use Rattle.dict_codes.specs.Dictionaries.{dictionary_of, rank_in}
 use Rattle.sql_read.specs.declared.definition.ColumnDef.{ColumnDef}
 use Rattle.sql_read.specs.declared.definition.TableDef.{TableDef}
+use Rattle.sql_values.specs.Texts.{by_bytes}
+use Rattle.sql_values.specs.Values.{Value, number, text, truth, null}
 use Rattle.struct_vectors.specs.Columns.{ColumnValue, narrow}
 use Rattle.struct_vectors.specs.Vectors.{VectorValue, vector_of}
-use Rattle.sql_values.specs.Values.{Value, number, text, truth, null}
 use Rattle.table_load.specs.Values.{Table, value_at}
 
 -- the texts of a row, of rows, and of tables, in order

@@ -2,12 +2,12 @@
 use Rattle.std.specs.Prelude.{◌≡◌, ℕ, ◌+◌, if◌then◌else◌, ℤ, Bool, false, List, ◌∷◌, ◌++◌, length, map, Option, Some, None, Result, Ok, Err, slice_get, slice_index_or, ⊤}
 use Rattle.std.specs.Option.{option_map}
 use Rattle.std.specs.Ordering.{int_eq}
+use Rattle.sql_values.specs.Values.{Value}
 use Rattle.table_load.specs.declared.refusal.DataKind.{DataKind}
 use Rattle.table_load.specs.declared.refusal.DataRefusal.{DataRefusal}
 use Rattle.table_load.specs.declared.refusal.DataRefusal.TheVariants as refusal
 use Rattle.table_load.specs.declared.fields.FieldRefusal.{FieldRefusal}
 use Rattle.table_load.specs.declared.fields.FieldRefusal.TheVariants as field
-use Rattle.sql_values.specs.Values.{Value}
 use Rattle.table_load.specs.Tables.{row_with_key}
 use Rattle.table_load.specs.HeldColumns.{AreCells, IsCell, noted, value_of, values_of}
 

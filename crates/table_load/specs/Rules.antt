@@ -1,11 +1,11 @@
 -- A table by rules: which records make which rows, and which record is the first that is refused. Each stands beside the answer for each file, as a law.
 use Rattle.std.specs.Prelude.{◌≡◌, ℕ, ◌+◌, ◌<◌, List, [], length, take, slice_index_or, Result, Ok, Err, MatchResult}
 use Rattle.sql_read.specs.declared.definition.TableDef.{TableDef}
+use Rattle.sql_values.specs.Values.{Value}
 use Rattle.table_load.specs.declared.refusal.DataKind.{DataKind}
 use Rattle.table_load.specs.declared.refusal.DataRefusal.{DataRefusal}
 use Rattle.table_load.specs.declared.refusal.DataRefusal.TheVariants.{Bad, NoMemory}
 use Rattle.table_load.specs.Tables.{record_row, rows_after}
-use Rattle.sql_values.specs.Values.{Value}
 
 -- a row for each record: record k, counted from 0, is read as row k, where none of the rows before it has its key
 pub record AreRows (t : TableDef) (records : List (List (List ℕ))) (rows : List (List Value)) : Type 0 where

@@ -8,12 +8,12 @@ use Rattle.sql_read.specs.declared.definition.ColumnDef.{ColumnDef}
 use Rattle.sql_read.specs.declared.definition.KeyDef.{KeyDef}
 use Rattle.sql_read.specs.declared.definition.TableDef.{TableDef}
 use Rattle.sql_types.specs.Catalog.{is_column_named}
+use Rattle.sql_values.specs.Values.{Value}
 use Rattle.table_load.specs.declared.refusal.DataKind.{DataKind}
 use Rattle.table_load.specs.declared.refusal.DataKind.TheVariants.{Header, TooManyRows, FieldCount, KeyTwice}
 use Rattle.table_load.specs.declared.refusal.DataRefusal.{DataRefusal}
 use Rattle.table_load.specs.declared.refusal.DataRefusal.TheVariants.{Bad, NoMemory}
 use Rattle.table_load.specs.Records.{records_of}
-use Rattle.sql_values.specs.Values.{Value}
 use Rattle.table_load.specs.Values.{Table, field_values, same_value, value_at}
 
 -- ---- the header

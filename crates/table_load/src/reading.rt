@@ -4,11 +4,11 @@ ghost use Rattle.std.specs.Prelude.{◌≡◌, ◌+◌, ◌≤◌, ◌<◌, ◌^
 ghost use Rattle.std.specs.HashMap.{get};
 ghost use Rattle.std.specs.Ordering.{int_eq};
 ghost use Rattle.csv.specs.Records.{fields_of};
+ghost use Rattle.sql_values.specs.Values.{Value};
 ghost use Rattle.table_load.specs.Databases.{row_texts};
 ghost use Rattle.table_load.specs.HeldColumns.{noted, text_columns, values_of};
 ghost use Rattle.table_load.specs.Reading.{Agrees, HasNoted, key_twice, ReadsRecord};
 ghost use Rattle.table_load.specs.Tables.{key_place, record_row};
-ghost use Rattle.sql_values.specs.Values.{Value};
 
 use crate::fields::read_fields;
 use crate::keys::key_twice;

@@ -3,9 +3,9 @@
 ghost use Rattle.std.specs.Prelude.{◌≡◌, ◌≤◌, ◌<◌, ◌^◌, ◌++◌, ℕ, true, [], ◌∷◌, length, map, IfOk};
 ghost use Rattle.std.specs.List.{All};
 ghost use Rattle.dict_codes.specs.Ascending.{ascending};
-ghost use Rattle.sql_values.specs.Texts.{by_bytes};
 ghost use Rattle.sql_read.specs.Forms.{is_name, IsFormed, IsNamed};
 ghost use Rattle.sql_types.specs.Catalog.{findings};
+ghost use Rattle.sql_values.specs.Texts.{by_bytes};
 ghost use Rattle.struct_vectors.specs.Vectors.{HaveLength, paths_of, vector_of};
 ghost use Rattle.table_load.specs.Columns.{columns_in};
 ghost use Rattle.table_load.specs.Databases.{store_of, vector_of_table};

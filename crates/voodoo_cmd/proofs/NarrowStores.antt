@@ -9,13 +9,13 @@ use Rattle.programs.specs.Vectors.{seen_attributes}
 use Rattle.std.specs.declared.cmp.Ordering.{Ordering}
 use Rattle.std.specs.declared.cmp.Ordering.TheVariants.{Less, Equal, Greater}
 use Rattle.dict_codes.specs.Ascending.{ascending, ascending_from, placed, with_item}
-use Rattle.sql_values.specs.Texts.{by_bytes}
 use Rattle.dict_codes.specs.Dictionaries.{dictionary_of}
 use Rattle.sql_read.specs.declared.definition.ColumnDef.{ColumnDef}
 use Rattle.sql_read.specs.declared.definition.TableDef.{TableDef}
+use Rattle.sql_values.specs.Texts.{by_bytes}
+use Rattle.sql_values.specs.Values.{Value}
 use Rattle.struct_vectors.specs.Columns.{ColumnValue, narrow, some_slots}
 use Rattle.struct_vectors.specs.Vectors.{VectorValue}
-use Rattle.sql_values.specs.Values.{Value}
 use Rattle.table_load.specs.Values.{Table}
 use Rattle.table_load.specs.Databases.{attributes_from, store_of, database_of, tables_texts}
 use Rattle.voodoo_cmd.specs.Narrow.{AreNarrow, IsNarrowStore, IsNarrowIfAny, slots_seen}

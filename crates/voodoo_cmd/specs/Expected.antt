@@ -1,5 +1,5 @@
 -- What a run is expected to answer, from the words and the files alone: the first refusal in the order of the steps, or the text.
-use Rattle.std.specs.Prelude.{ℕ, ◌-◌, if◌then◌else◌, List, [], ◌∷◌, take, slice_get, Ok, Err}
+use Rattle.std.specs.Prelude.{ℕ, ◌-◌, List, [], ◌∷◌, take, slice_get, Ok, Err}
 use Rattle.std.specs.Option.{option_map}
 use Rattle.control_vectors.specs.Slots.{Slot, numbers}
 use Rattle.io_edge.specs.Shelves.{FileMap}

@@ -3,7 +3,7 @@ use Rattle.std.specs.Prelude.{ℕ, ◌+◌, ◌^◌, ◌⊎◌, ◌≡◌, List,
 use Rattle.io_edge.specs.Faults.{Rose}
 use Rattle.io_edge.specs.Shelves.{FileMap, Lacks}
 use Rattle.voodoo_cmd.specs.declared.status.FileRole.{FileRole}
-use Rattle.voodoo_cmd.specs.declared.status.FileRole.TheVariants.{Schema, Table, Text}
+use Rattle.voodoo_cmd.specs.declared.status.FileRole.TheVariants.{Text}
 use Rattle.voodoo_cmd.specs.declared.status.LimitWhat.TheVariants.{File}
 use Rattle.voodoo_cmd.specs.declared.status.Status.{Status}
 use Rattle.voodoo_cmd.specs.declared.status.Status.TheVariants.{Done, Usage, ReadFault, WriteFault, SchemaRefused, DataRefused, QueryRefused, AlgebraRefused, LimitReached, Overflow, NotYet, NoMemory}

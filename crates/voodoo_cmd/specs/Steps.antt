@@ -1,5 +1,5 @@
 -- The steps of a run, each a function of the files.
-use Rattle.std.specs.Prelude.{ℕ, ◌+◌, ◌&&◌, Bool, true, false, if◌then◌else◌, List, [], ◌∷◌, slice_get, slice_index_or, Option, Some, None, Result, Ok, Err}
+use Rattle.std.specs.Prelude.{ℕ, ◌+◌, List, [], ◌∷◌, slice_get, slice_index_or, Option, Some, None, Result, Ok, Err}
 use Rattle.std.specs.Option.{option_map}
 use Rattle.control_vectors.specs.Slots.{Slot}
 use Rattle.control_vectors.specs.declared.Over.{Over}
@@ -36,7 +36,7 @@ use Rattle.voodoo_cmd.specs.declared.status.SchemaCause.TheVariants as cause
 use Rattle.voodoo_cmd.specs.declared.status.QueryCause.TheVariants as query_cause
 use Rattle.voodoo_cmd.specs.declared.status.AlgebraCause.TheVariants as algebra_cause
 use Rattle.voodoo_cmd.specs.declared.status.LimitWhat.TheVariants.{Slots}
-use Rattle.voodoo_cmd.specs.declared.status.Status.TheVariants.{Usage, SchemaRefused, DataRefused, QueryRefused, AlgebraRefused, LimitReached, NotYet, Overflow, NoMemory}
+use Rattle.voodoo_cmd.specs.declared.status.Status.TheVariants.{Usage, SchemaRefused, DataRefused, QueryRefused, AlgebraRefused, LimitReached, Overflow, NoMemory}
 use Rattle.voodoo_cmd.specs.Inputs.{file_in, schema_limit, table_limit, query_limit, program_limit}
 use Rattle.voodoo_cmd.specs.Outcomes.{Outcome, or_refuse, ◌>>=◌}
 use Rattle.voodoo_cmd.specs.Paths.{table_file}

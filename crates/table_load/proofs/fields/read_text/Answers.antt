@@ -4,9 +4,9 @@ use Rattle.std.proofs.lemmas.Bool.{cases_Bool}
 use Rattle.std.proofs.lemmas.Int.{to_z-of_z}
 use Rattle.std.proofs.lemmas.Option.{slice_get_within}
 use Rattle.std.proofs.lemmas.Str.{IsUtf8-from_is_utf8, is_utf8-from_IsUtf8}
+use Rattle.sql_values.specs.Values.{Value, text}
 use Rattle.table_load.specs.Databases.{row_texts}
 use Rattle.table_load.specs.HeldColumns.{noted}
-use Rattle.sql_values.specs.Values.{Value, text}
 use Rattle.table_load.proofs.FieldLaws.{text_fits, text_long, text_not}
 use Rattle.table_load.proofs.Rowwise.{noted_one, text_cell}
 use Rattle.table_load.proofs.fields.read_text.Goals as goal
