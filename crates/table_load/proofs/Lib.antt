@@ -13,3 +13,4 @@ pub mod StoreFacts
 pub mod ColumnNames
 pub mod TextCounts
 pub mod Limits
+pub mod Examples

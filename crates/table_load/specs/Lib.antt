@@ -8,3 +8,4 @@ pub mod HeldColumns
 pub mod Reading
 pub mod Columns
 pub mod Vectors
+pub mod Examples
