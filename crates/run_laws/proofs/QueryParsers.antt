@@ -164,13 +164,13 @@ module _ (m : Asked) (text : Bytes) (u : Under) (h : Opens u) where
   unfolding e.negated
   negated a = parses_then (word k.Not) (λ _. ranged Negated a)
 
-  test : (a : Expr) → Parses (e.test m text u a)
-  unfolding e.test
-  test a = parses_either (of compares) (compared a) (parses_either (is k.Not) (negated a) (parses_either (of ranges) (ranged Plain a) (parses_pure a)))
+  predicate_tail : (a : Expr) → Parses (e.predicate_tail m text u a)
+  unfolding e.predicate_tail
+  predicate_tail a = parses_either (of compares) (compared a) (parses_either (is k.Not) (negated a) (parses_either (of ranges) (ranged Plain a) (parses_pure a)))
 
   neg : Parses (e.neg m text u)
   unfolding e.neg e.pred
-  neg = parses_either (is k.Not) h.nots (parses_then sum test)
+  neg = parses_either (is k.Not) h.nots (parses_then sum predicate_tail)
 
   conj : Parses (e.conj m text u)
   unfolding e.conj

@@ -2,12 +2,12 @@
 use Rattle.std.proofs.Common.{◌≡◌, ℕ, ◌+◌, List, [], ◌∷◌, ◌++◌, length, Ok, Err, Some, None, refl}
 use Rattle.std.specs.Prelude.{Option, Result}
 use Rattle.sql_read.specs.declared.definition.TableDef.{TableDef}
+use Rattle.sql_values.specs.Values.{Value}
 use Rattle.table_load.specs.declared.refusal.DataKind.{DataKind}
 use Rattle.table_load.specs.declared.refusal.DataRefusal.{DataRefusal}
 use Rattle.table_load.specs.declared.refusal.DataRefusal.TheVariants as loading
 use Rattle.table_load.specs.Records.{records_of}
 use Rattle.table_load.specs.Tables.{table_of, table_of_records, under_header, header_refusal, as_table, rows_after, then_rows, record_row}
-use Rattle.table_load.specs.Values.{Value}
 use Rattle.run_laws.specs.Laws.{TableLaw}
 
 then_never : (r : Result (List Value) (ℕ × DataKind)) (n : ℕ) (more : List Value → Result (List (List Value)) DataRefusal) → ((row : List Value) → more row ≡ Err loading.NoMemory → ⊥) → then_rows r n more ≡ Err loading.NoMemory → ⊥
