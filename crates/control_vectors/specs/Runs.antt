@@ -37,12 +37,12 @@ differs xs i = not (slot_eq (slice_index_or xs i None) (slice_index_or xs (i - 1
 
 -- ---- the stretches of a list that begin at marks
 -- an element before some runs: it joins the first of them, unless a mark stands there
-abbrev pub joined : {A : Type 0} → List Bool → A → List (List A) → List (List A)
-joined (false ∷ marks) x (run ∷ others) = (x ∷ run) ∷ others
-joined marks x others = (x ∷ []) ∷ others
+abbrev pub runs_with_first : {A : Type 0} → List Bool → A → List (List A) → List (List A)
+runs_with_first (false ∷ marks) x (run ∷ others) = (x ∷ run) ∷ others
+runs_with_first marks x others = (x ∷ []) ∷ others
 
 -- the runs of a list, whose first place begins one whatever its mark
 abbrev pub runs : {A : Type 0} → List Bool → List A → List (List A)
 runs [] xs = []
 runs (mark ∷ marks) [] = []
-runs (mark ∷ marks) (x ∷ xs) = joined marks x (runs marks xs)
+runs (mark ∷ marks) (x ∷ xs) = runs_with_first marks x (runs marks xs)

@@ -8,7 +8,7 @@ use Rattle.std.proofs.lemmas.List.{length-append}
 use Rattle.std.proofs.lemmas.List.Splits.{slice_split_none, slice_split_at}
 use Rattle.std.proofs.lemmas.Slice.Eq.{bytes_eq-Decides}
 use Rattle.std.proofs.lemmas.Str.{IsUtf8-from_ascii}
-use Rattle.key_paths.specs.Paths.{is_dot, begins_segment, is_in_segment, is_segment, joined, path_text, IsPath, nonempty_tail, segments_of, is_path}
+use Rattle.key_paths.specs.Paths.{is_dot, begins_segment, is_in_segment, is_segment, dotted_text, path_text, IsPath, nonempty_tail, segments_of, is_path}
 use Rattle.key_paths.proofs.Bools.{all_weaker, all_both, all_ascii, none_passes}
 
 -- ---- segments
@@ -54,17 +54,17 @@ segment_in_path w h = all_weaker is_in_segment is_in_path inside_path w (segment
 pub segment_utf8 : (w : List ℕ) → is_segment w ≡ true → IsUtf8 w
 segment_utf8 w h = IsUtf8-from_ascii w (path_ascii w (segment_in_path w h))
 
-joined_in_path : (segments : List (List ℕ)) → list_all is_segment segments ≡ true → list_all is_in_path (joined segments) ≡ true
-joined_in_path [] h = refl
-joined_in_path (s ∷ segments) h =
+dotted_text_in_path : (segments : List (List ℕ)) → list_all is_segment segments ≡ true → list_all is_in_path (dotted_text segments) ≡ true
+dotted_text_in_path [] h = refl
+dotted_text_in_path (s ∷ segments) h =
     let both = and_parts (is_segment s) (list_all is_segment segments) h in
-    all_both is_in_path s (joined segments) (segment_in_path s both.0) (joined_in_path segments both.1)
+    all_both is_in_path s (dotted_text segments) (segment_in_path s both.0) (dotted_text_in_path segments both.1)
 
-joined_short : (segments : List (List ℕ)) → list_all is_segment segments ≡ true → length (joined segments) ≤ 65 * length segments
-joined_short [] h = omega arith
-joined_short (s ∷ segments) h =
+dotted_text_short : (segments : List (List ℕ)) → list_all is_segment segments ≡ true → length (dotted_text segments) ≤ 65 * length segments
+dotted_text_short [] h = omega arith
+dotted_text_short (s ∷ segments) h =
     let both = and_parts (is_segment s) (list_all is_segment segments) h in
-    omega (arith, segment_short s both.0, joined_short segments both.1, length-append s (joined segments))
+    omega (arith, segment_short s both.0, dotted_text_short segments both.1, length-append s (dotted_text segments))
 
 -- a path has a dot first, its bytes alone, and at most 520 of them
 pub record PathForm (w : List ℕ) : Type 0 where
@@ -76,7 +76,7 @@ pub record PathForm (w : List ℕ) : Type 0 where
 text_form : (segments : List (List ℕ)) → length segments ≤ 8 → list_all is_segment segments ≡ true → PathForm (path_text segments)
 text_form [] few h = record { rest = []; dot = refl; inside = refl; short = omega arith }
 text_form (s ∷ segments) few h =
-    record { rest = s ++ joined segments; dot = refl; inside = joined_in_path (s ∷ segments) h; short = omega (arith, joined_short (s ∷ segments) h) }
+    record { rest = s ++ dotted_text segments; dot = refl; inside = dotted_text_in_path (s ∷ segments) h; short = omega (arith, dotted_text_short (s ∷ segments) h) }
 
 pub path_form : (w : List ℕ) → IsPath w → PathForm w
 path_form w is = subst PathForm (sym is.is) (text_form is.segments is.few is.each)
@@ -98,13 +98,13 @@ no_dot b h = grind (arith, nat_tests)
 no_dots : (w : List ℕ) → is_segment w ≡ true → All (λ b. is_dot b ≡ false) w
 no_dots w h = none_passes is_dot w (all_weaker is_in_segment (λ b. not (is_dot b)) no_dot w (segment_inside w h))
 
-split_joined : (s : List ℕ) (segments : List (List ℕ)) → list_all is_segment (s ∷ segments) ≡ true → slice_split is_dot (s ++ joined segments) ≡ s ∷ segments
-split_joined s [] h =
+split_dotted_text : (s : List ℕ) (segments : List (List ℕ)) → list_all is_segment (s ∷ segments) ≡ true → slice_split is_dot (s ++ dotted_text segments) ≡ s ∷ segments
+split_dotted_text s [] h =
     let both = and_parts (is_segment s) true h in
     ap (slice_split is_dot) (append-nil s) ∙ slice_split_none is_dot s (no_dots s both.0)
-split_joined s (t ∷ segments) h =
+split_dotted_text s (t ∷ segments) h =
     let both = and_parts (is_segment s) (list_all is_segment (t ∷ segments)) h in
-    slice_split_at is_dot s 46 (t ++ joined segments) (no_dots s both.0) refl ∙ ap (λ (others : List (List ℕ)). s ∷ others) (split_joined t segments both.1)
+    slice_split_at is_dot s 46 (t ++ dotted_text segments) (no_dots s both.0) refl ∙ ap (λ (others : List (List ℕ)). s ∷ others) (split_dotted_text t segments both.1)
 
 tail_of_segments : (s : List ℕ) (segments : List (List ℕ)) → is_segment s ≡ true → nonempty_tail ([] ∷ s ∷ segments) ≡ s ∷ segments
 tail_of_segments [] segments h = cc
@@ -114,7 +114,7 @@ segments_back : (segments : List (List ℕ)) → list_all is_segment segments �
 segments_back [] h = refl
 segments_back (s ∷ segments) h =
     let both = and_parts (is_segment s) (list_all is_segment segments) h in
-    ap (λ (parts : List (List ℕ)). nonempty_tail ([] ∷ parts)) (split_joined s segments h) ∙ tail_of_segments s segments both.0
+    ap (λ (parts : List (List ℕ)). nonempty_tail ([] ∷ parts)) (split_dotted_text s segments h) ∙ tail_of_segments s segments both.0
 
 test_of_text : (segments : List (List ℕ)) → length segments ≤ 8 → list_all is_segment segments ≡ true → is_path (path_text segments) ≡ true
 unfolding is_path

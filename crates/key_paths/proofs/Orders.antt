@@ -11,7 +11,7 @@ use Rattle.std.proofs.lemmas.Cmp.{nat_list_cmp_total}
 use Rattle.std.proofs.lemmas.Bool.{and_parts, cases_order}
 use Rattle.std.proofs.lemmas.Bool.Decides.{nat_tests}
 use Rattle.std.proofs.lemmas.Slice.Eq.{bytes_eq-Decides}
-use Rattle.key_paths.specs.Paths.{is_dot, joined, path_text, IsPath}
+use Rattle.key_paths.specs.Paths.{is_dot, dotted_text, path_text, IsPath}
 use Rattle.key_paths.specs.Substructures.{is_root, begins_segment_or_ends, is_at_or_below, is_before}
 use Rattle.key_paths.proofs.Bools.{no_true, all_weaker}
 use Rattle.key_paths.proofs.Forms.{is_in_path, path_inside}
@@ -111,7 +111,7 @@ not_before_nothing (x ∷ text) = refl
 
 not_before_root : (ss : List (List ℕ)) → is_before (path_text ss) (46 ∷ []) ≡ false
 not_before_root [] = refl
-not_before_root (s ∷ ss) = not_before_nothing (s ++ joined ss)
+not_before_root (s ∷ ss) = not_before_nothing (s ++ dotted_text ss)
 
 either_or : (a b : Bool) → (a || b) ≡ true → (a ≡ true) ⊎ (b ≡ true)
 either_or true b h = inl refl

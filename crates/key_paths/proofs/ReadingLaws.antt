@@ -9,12 +9,12 @@ use Rattle.std.proofs.lemmas.Option.{slice_get_past}
 use Rattle.std.proofs.lemmas.List.Folds.{list_all-append}
 use Rattle.std.proofs.lemmas.Bool.{and_parts}
 use Rattle.std.proofs.lemmas.Bool.Decides.{nat_tests}
-use Rattle.key_paths.specs.Paths.{is_dot, begins_segment, is_in_segment, is_segment, joined, path_text, last_width, kind_inside, kind_after, IsPath, BeginsPath, IsFault}
+use Rattle.key_paths.specs.Paths.{is_dot, begins_segment, is_in_segment, is_segment, dotted_text, path_text, last_width, kind_inside, kind_after, IsPath, BeginsPath, IsFault}
 use Rattle.key_paths.specs.Reading.{reached, step_of, end_of}
 use Rattle.key_paths.specs.declared.reading.Reached.{Reached}
 use Rattle.key_paths.specs.declared.refusal.PathKind.{PathKind}
 use Rattle.key_paths.specs.declared.refusal.PathKind.TheVariants.{NoDot, EmptySegment, SegmentTooLong, BadByte}
-use Rattle.key_paths.proofs.Texts.{joined-push, path_text-push, last_width_dot, last_width_inside, not_dot_from_begins, not_dot_from_inside}
+use Rattle.key_paths.proofs.Texts.{dotted_text-push, path_text-push, last_width_dot, last_width_inside, not_dot_from_begins, not_dot_from_inside}
 use Rattle.key_paths.proofs.Forms.{segment_some, segment_short}
 use Rattle.key_paths.proofs.Steps.{Stepped, dot, first, inner, Refused, no_dot, empty, deep, bad_first, bad_inner, long, stepped, refused, choice, either, above_zero, is_zero}
 
@@ -58,8 +58,8 @@ read_on-append (b ∷ xs) ys r = next-next (step_of r b) (read_on (xs ++ ys)) (r
 -- the segments before the last one, and the last one so far
 pub data Reads (r : Reached) (text : List ℕ) : Type 0 where
   nothing : r.segments ≡ 0 → r.width ≡ 0 → text ≡ [] → Reads r text
-  segments : (before : List (List ℕ)) → r.segments ≡ length before + 1 → length before ≤ 7 → list_all is_segment before ≡ true → r.width ≡ 0 → text ≡ joined before ++ 46 ∷ [] → Reads r text
-  inside : (before : List (List ℕ)) (last : List ℕ) → r.segments ≡ length before + 1 → length before ≤ 7 → list_all is_segment before ≡ true → r.width ≡ length last → is_segment last ≡ true → text ≡ joined before ++ 46 ∷ last → Reads r text
+  segments : (before : List (List ℕ)) → r.segments ≡ length before + 1 → length before ≤ 7 → list_all is_segment before ≡ true → r.width ≡ 0 → text ≡ dotted_text before ++ 46 ∷ [] → Reads r text
+  inside : (before : List (List ℕ)) (last : List ℕ) → r.segments ≡ length before + 1 → length before ≤ 7 → list_all is_segment before ≡ true → r.width ≡ length last → is_segment last ≡ true → text ≡ dotted_text before ++ 46 ∷ last → Reads r text
 
 dot_byte : (b : ℕ) → is_dot b ≡ true → b ≡ 46
 dot_byte b h = grind (arith, nat_tests)
@@ -96,14 +96,14 @@ reads_dot r after b text (nothing z w t) d c few is =
 reads_dot r after b text (segments before n few' all w t) d c few is = absurd (no_choice r.segments r.width c (omega arith) w)
 reads_dot r after b text (inside before last n few' all w s t) d c few is =
     let e : b ≡ 46 = dot_byte b d in
-    let joins : (joined before ++ 46 ∷ last) ++ 46 ∷ [] ≡ joined (before ++ last ∷ []) ++ 46 ∷ [] = ap (λ (l : List ℕ). l ++ 46 ∷ []) (sym (joined-push before last)) in
+    let joins : (dotted_text before ++ 46 ∷ last) ++ 46 ∷ [] ≡ dotted_text (before ++ last ∷ []) ++ 46 ∷ [] = ap (λ (l : List ℕ). l ++ 46 ∷ []) (sym (dotted_text-push before last)) in
     let more = length_push before last in
     rw (is, t, e) (segments (before ++ last ∷ []) (omega arith) (omega arith) (all_push before last all s) refl joins)
 
 reads_first : (r after : Reached) (b : ℕ) (text : List ℕ) → Reads r text → 0 < r.segments → r.width ≡ 0 → begins_segment b ≡ true → after ≡ reached r.segments 1 → Reads after (text ++ b ∷ [])
 reads_first r after b text (nothing z w t) some width begins is = absurd (omega arith)
 reads_first r after b text (segments before n few all w t) some width begins is =
-    rw (is, t) (inside before (b ∷ []) n few all refl (segment_first b begins) (append_assoc (joined before) (46 ∷ []) (b ∷ [])))
+    rw (is, t) (inside before (b ∷ []) n few all refl (segment_first b begins) (append_assoc (dotted_text before) (46 ∷ []) (b ∷ [])))
 reads_first r after b text (inside before last n few all w s t) some width begins is = absurd (omega (arith, segment_some last s))
 
 reads_inner : (r after : Reached) (b : ℕ) (text : List ℕ) → Reads r text → 0 < r.width → is_in_segment b ≡ true → r.width < 64 → after ≡ reached r.segments (r.width + 1) → Reads after (text ++ b ∷ [])
@@ -111,7 +111,7 @@ reads_inner r after b text (nothing z w t) some within short is = absurd (omega 
 reads_inner r after b text (segments before n few all w t) some within short is = absurd (omega arith)
 reads_inner r after b text (inside before last n few all w s t) some within short is =
     let more = length_push last b in
-    rw (is, t) (inside before (last ++ b ∷ []) n few all (omega arith) (segment_push last b s within (omega arith)) (append_assoc (joined before) (46 ∷ last) (b ∷ [])))
+    rw (is, t) (inside before (last ++ b ∷ []) n few all (omega arith) (segment_push last b s within (omega arith)) (append_assoc (dotted_text before) (46 ∷ last) (b ∷ [])))
 
 pub reads_more : (r after : Reached) (b : ℕ) (text : List ℕ) → Reads r text → Stepped r b after → Reads after (text ++ b ∷ [])
 reads_more r after b text h (dot d c few is) = reads_dot r after b text h d c few is
@@ -147,12 +147,12 @@ known text r e = known_all text [] start r (record { reads = nothing refl refl r
 some_byte : is_segment (97 ∷ []) ≡ true
 some_byte = refl
 
-path_of : (text : List ℕ) (before : List (List ℕ)) (last : List ℕ) → length before ≤ 7 → list_all is_segment before ≡ true → is_segment last ≡ true → text ≡ joined before ++ 46 ∷ last → IsPath text
+path_of : (text : List ℕ) (before : List (List ℕ)) (last : List ℕ) → length before ≤ 7 → list_all is_segment before ≡ true → is_segment last ≡ true → text ≡ dotted_text before ++ 46 ∷ last → IsPath text
 path_of text before last few all s e = record {
   segments = before ++ last ∷ [];
   few = omega (arith, length_push before last);
   each = all_push before last all s;
-  is = e ∙ sym (path_text-push before last ∙ joined-push before last);
+  is = e ∙ sym (path_text-push before last ∙ dotted_text-push before last);
 }
 
 root_path : IsPath (46 ∷ [])
@@ -162,7 +162,7 @@ pub begins_from_reads : (r : Reached) (text : List ℕ) → Reads r text → Beg
 begins_from_reads r text (nothing z w t) = record { rest = 46 ∷ []; path = rw t root_path }
 begins_from_reads r text (segments before n few all w t) = record {
   rest = 97 ∷ [];
-  path = path_of (text ++ 97 ∷ []) before (97 ∷ []) few all some_byte (ap (λ (l : List ℕ). l ++ 97 ∷ []) t ∙ append_assoc (joined before) (46 ∷ []) (97 ∷ []));
+  path = path_of (text ++ 97 ∷ []) before (97 ∷ []) few all some_byte (ap (λ (l : List ℕ). l ++ 97 ∷ []) t ∙ append_assoc (dotted_text before) (46 ∷ []) (97 ∷ []));
 }
 begins_from_reads r text (inside before last n few all w s t) = record { rest = []; path = rw (append-nil text) (path_of text before last few all s t) }
 
@@ -209,16 +209,16 @@ pub record ReadTo (text : List ℕ) (r : Reached) (count : ℕ) : Type 0 where
   pub ok : read_on text r ≡ Ok (reached (r.segments + count) width)
   pub above : ((width ≡ r.width) × (count ≡ 0)) ⊎ (0 < width)
 
-read_joined : (segments : List (List ℕ)) (d w : ℕ) → list_all is_segment segments ≡ true → (d ≡ 0) ⊎ (0 < w) → d + length segments ≤ 8 → ReadTo (joined segments) (reached d w) (length segments)
-read_joined [] d w h c few = record { width = w; ok = ap (λ n. Ok (reached n w)) (let e : d ≡ d + 0 = omega arith in e); above = inl (refl, refl) }
-read_joined (s ∷ ss) d w h c few =
+read_dotted_text : (segments : List (List ℕ)) (d w : ℕ) → list_all is_segment segments ≡ true → (d ≡ 0) ⊎ (0 < w) → d + length segments ≤ 8 → ReadTo (dotted_text segments) (reached d w) (length segments)
+read_dotted_text [] d w h c few = record { width = w; ok = ap (λ n. Ok (reached n w)) (let e : d ≡ d + 0 = omega arith in e); above = inl (refl, refl) }
+read_dotted_text (s ∷ ss) d w h c few =
     let parts = and_parts (is_segment s) (list_all is_segment ss) h in
-    let others = read_joined ss (d + 1) (length s) parts.1 (inr (segment_some s parts.0)) (omega arith) in
-    let here : read_on (s ++ joined ss) (reached (d + 1) 0) ≡ read_on (joined ss) (reached (d + 1) (length s)) =
-    read_on-append s (joined ss) (reached (d + 1) 0) ∙ ap (λ (r : Result Reached PathKind). next r (read_on (joined ss))) (read_segment s (d + 1) parts.0 (omega arith)) in
+    let others = read_dotted_text ss (d + 1) (length s) parts.1 (inr (segment_some s parts.0)) (omega arith) in
+    let here : read_on (s ++ dotted_text ss) (reached (d + 1) 0) ≡ read_on (dotted_text ss) (reached (d + 1) (length s)) =
+    read_on-append s (dotted_text ss) (reached (d + 1) 0) ∙ ap (λ (r : Result Reached PathKind). next r (read_on (dotted_text ss))) (read_segment s (d + 1) parts.0 (omega arith)) in
     record {
       width = others.width;
-      ok = ap (λ (r : Result Reached PathKind). next r (read_on (s ++ joined ss))) (dot_ok d w c (omega arith)) ∙ (here ∙ (others.ok ∙ ap (λ n. Ok (reached n others.width)) (let e : d + 1 + length ss ≡ d + suc (length ss) = omega arith in e)));
+      ok = ap (λ (r : Result Reached PathKind). next r (read_on (s ++ dotted_text ss))) (dot_ok d w c (omega arith)) ∙ (here ∙ (others.ok ∙ ap (λ n. Ok (reached n others.width)) (let e : d + 1 + length ss ≡ d + suc (length ss) = omega arith in e)));
       above = inr (elim others.above [ inl e ↦ let a = segment_some s parts.0 in omega (arith, e.0) | inr a ↦ a ]);
     }
 
@@ -234,7 +234,7 @@ pub record ReadWhole (text : List ℕ) : Type 0 where
 whole_segments : (segments : List (List ℕ)) → list_all is_segment segments ≡ true → length segments ≤ 8 → ReadWhole (path_text segments)
 whole_segments [] h few = record { to = reached 1 0; ok = refl; end = refl }
 whole_segments (s ∷ ss) h few =
-    let all = read_joined (s ∷ ss) 0 0 h (inl refl) (omega arith) in
+    let all = read_dotted_text (s ∷ ss) 0 0 h (inl refl) (omega arith) in
     record {
       to = reached (0 + length (s ∷ ss)) all.width;
       ok = all.ok;
@@ -260,8 +260,8 @@ kind_after-inside (x ∷ text) byte h = refl
 
 longer : (r : Reached) (text : List ℕ) → Reads r text → 0 < r.segments → 0 < length text
 longer r text (nothing z w t) h = absurd (omega arith)
-longer r text (segments before n few all w t) h = rw (t, length-append (joined before) (46 ∷ [])) (omega arith)
-longer r text (inside before last n few all w s t) h = rw (t, length-append (joined before) (46 ∷ last)) (omega arith)
+longer r text (segments before n few all w t) h = rw (t, length-append (dotted_text before) (46 ∷ [])) (omega arith)
+longer r text (inside before last n few all w s t) h = rw (t, length-append (dotted_text before) (46 ∷ last)) (omega arith)
 
 width_most : (r : Reached) (text : List ℕ) → Reads r text → r.width ≤ 64
 width_most r text (nothing z w t) = omega arith

@@ -2,15 +2,15 @@
 use Rattle.std.proofs.Common.{◌≡◌, ℕ, ◌+◌, true, false, List, [], ◌∷◌, ◌++◌, refl, ap, sym, ◌∙◌, append_assoc, append-nil, arith}
 use Rattle.std.proofs.lemmas.List.{reverse-append}
 use Rattle.std.proofs.lemmas.Bool.Decides.{nat_tests}
-use Rattle.key_paths.specs.Paths.{is_dot, begins_segment, is_in_segment, joined, path_text, last_width}
+use Rattle.key_paths.specs.Paths.{is_dot, begins_segment, is_in_segment, dotted_text, path_text, last_width}
 
 -- one segment more
-pub joined-push : (segments : List (List ℕ)) (segment : List ℕ) → joined (segments ++ segment ∷ []) ≡ joined segments ++ 46 ∷ segment
-joined-push [] segment = ap (λ (l : List ℕ). 46 ∷ l) (append-nil segment)
-joined-push (s ∷ segments) segment =
-    ap (λ (l : List ℕ). 46 ∷ (s ++ l)) (joined-push segments segment) ∙ ap (λ (l : List ℕ). 46 ∷ l) (sym (append_assoc s (joined segments) (46 ∷ segment)))
+pub dotted_text-push : (segments : List (List ℕ)) (segment : List ℕ) → dotted_text (segments ++ segment ∷ []) ≡ dotted_text segments ++ 46 ∷ segment
+dotted_text-push [] segment = ap (λ (l : List ℕ). 46 ∷ l) (append-nil segment)
+dotted_text-push (s ∷ segments) segment =
+    ap (λ (l : List ℕ). 46 ∷ (s ++ l)) (dotted_text-push segments segment) ∙ ap (λ (l : List ℕ). 46 ∷ l) (sym (append_assoc s (dotted_text segments) (46 ∷ segment)))
 
-pub path_text-push : (segments : List (List ℕ)) (segment : List ℕ) → path_text (segments ++ segment ∷ []) ≡ joined (segments ++ segment ∷ [])
+pub path_text-push : (segments : List (List ℕ)) (segment : List ℕ) → path_text (segments ++ segment ∷ []) ≡ dotted_text (segments ++ segment ∷ [])
 path_text-push [] segment = refl
 path_text-push (s ∷ segments) segment = refl
 

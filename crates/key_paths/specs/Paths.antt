@@ -29,14 +29,14 @@ is_segment [] = false
 is_segment (first ∷ others) = begins_segment first && (list_all is_in_segment others && nat_le (length others) 63)
 
 -- segments, each after a dot
-abbrev pub joined : List (List ℕ) → List ℕ
-joined [] = []
-joined (segment ∷ segments) = 46 ∷ (segment ++ joined segments)
+abbrev pub dotted_text : List (List ℕ) → List ℕ
+dotted_text [] = []
+dotted_text (segment ∷ segments) = 46 ∷ (segment ++ dotted_text segments)
 
 -- the text of a path of such segments: that of none is `.`, the root
 abbrev pub path_text : List (List ℕ) → List ℕ
 path_text [] = 46 ∷ []
-path_text (segment ∷ segments) = joined (segment ∷ segments)
+path_text (segment ∷ segments) = dotted_text (segment ∷ segments)
 
 -- a text that is a path, of 0 to 8 segments
 pub record IsPath (text : List ℕ) : Type 0 where

@@ -7,7 +7,7 @@ use Rattle.std.specs.declared.cmp.Ordering.TheVariants.{Equal}
 use Rattle.std.proofs.lemmas.Bool.{and_parts, false≢true}
 use Rattle.std.proofs.lemmas.Bool.Decides.{nat_tests}
 use Rattle.std.proofs.lemmas.List.Folds.{list_all-append}
-use Rattle.key_paths.specs.Paths.{is_dot, begins_segment, is_in_segment, is_segment, joined, path_text, IsPath}
+use Rattle.key_paths.specs.Paths.{is_dot, begins_segment, is_in_segment, is_segment, dotted_text, path_text, IsPath}
 use Rattle.key_paths.specs.Substructures.{is_root, begins_segment_or_ends, is_at_or_below, is_before}
 use Rattle.key_paths.proofs.Orders.{goes_on}
 use Rattle.key_paths.proofs.Texts.{not_dot_from_begins, not_dot_from_inside}
@@ -43,30 +43,30 @@ front_of (x ∷ text) (y ∷ front) h =
 
 -- ---- texts of segments
 
-joined-append : (a b : List (List ℕ)) → joined (a ++ b) ≡ joined a ++ joined b
-joined-append [] b = refl
-joined-append (s ∷ a) b = ap (λ (l : List ℕ). 46 ∷ (s ++ l)) (joined-append a b) ∙ ap (λ (l : List ℕ). 46 ∷ l) (sym (append_assoc s (joined a) (joined b)))
+dotted_text-append : (a b : List (List ℕ)) → dotted_text (a ++ b) ≡ dotted_text a ++ dotted_text b
+dotted_text-append [] b = refl
+dotted_text-append (s ∷ a) b = ap (λ (l : List ℕ). 46 ∷ (s ++ l)) (dotted_text-append a b) ∙ ap (λ (l : List ℕ). 46 ∷ l) (sym (append_assoc s (dotted_text a) (dotted_text b)))
 
-path_of-joined : (ss : List (List ℕ)) → path_of (joined ss) ≡ path_text ss
-path_of-joined [] = refl
-path_of-joined (s ∷ ss) = refl
+path_of-dotted_text : (ss : List (List ℕ)) → path_of (dotted_text ss) ≡ path_text ss
+path_of-dotted_text [] = refl
+path_of-dotted_text (s ∷ ss) = refl
 
-not_root : (s : List ℕ) (ss : List (List ℕ)) → is_segment s ≡ true → is_root (joined (s ∷ ss)) ≡ false
+not_root : (s : List ℕ) (ss : List (List ℕ)) → is_segment s ≡ true → is_root (dotted_text (s ∷ ss)) ≡ false
 not_root [] ss h = absurd cc
 not_root (x ∷ s) ss h = refl
 
-stem-text : (ss : List (List ℕ)) → list_all is_segment ss ≡ true → stem (path_text ss) ≡ joined ss
+stem-text : (ss : List (List ℕ)) → list_all is_segment ss ≡ true → stem (path_text ss) ≡ dotted_text ss
 stem-text [] h = refl
 stem-text (s ∷ ss) h = rw (not_root s ss (and_parts (is_segment s) (list_all is_segment ss) h).0) refl
 
-below-text : (xs ys : List (List ℕ)) → list_all is_segment xs ≡ true → list_all is_segment ys ≡ true → is_at_or_below (path_text xs) (path_text ys) ≡ goes_on (joined xs) (joined ys)
+below-text : (xs ys : List (List ℕ)) → list_all is_segment xs ≡ true → list_all is_segment ys ≡ true → is_at_or_below (path_text xs) (path_text ys) ≡ goes_on (dotted_text xs) (dotted_text ys)
 below-text [] [] h k = refl
 below-text (s ∷ xs) [] h k = refl
 below-text [] ([] ∷ ys) h k = absurd cc
 below-text [] ((b ∷ t) ∷ ys) h k = refl
 below-text (s ∷ xs) (t ∷ ys) h k = rw (not_root t ys (and_parts (is_segment t) (list_all is_segment ys) k).0) refl
 
-before-text : (xs ys : List (List ℕ)) → list_all is_segment xs ≡ true → list_all is_segment ys ≡ true → is_before (path_text xs) (path_text ys) ≡ is_before (joined xs) (joined ys)
+before-text : (xs ys : List (List ℕ)) → list_all is_segment xs ≡ true → list_all is_segment ys ≡ true → is_before (path_text xs) (path_text ys) ≡ is_before (dotted_text xs) (dotted_text ys)
 before-text [] [] h k = refl
 before-text ([] ∷ xs) [] h k = absurd cc
 before-text ((b ∷ s) ∷ xs) [] h k = refl
@@ -79,7 +79,7 @@ before-text (s ∷ xs) (t ∷ ys) h k = refl
 record Segments (text : List ℕ) : Type 0 where
   pub segments : List (List ℕ)
   pub each : list_all is_segment segments ≡ true
-  pub is : text ≡ joined segments
+  pub is : text ≡ dotted_text segments
 
 inside : (rest : List ℕ) (s : List ℕ) (n : ℕ) → list_all (λ b. not (is_dot b)) s ≡ true → ((k : ℕ) → begins_segment_or_ends (drop k rest) ≡ true → Segments (drop k rest)) → begins_segment_or_ends (drop n (s ++ rest)) ≡ true → Segments (drop n (s ++ rest))
 inside rest [] n h more b = more n b
@@ -101,13 +101,13 @@ segment_undotted (x ∷ xs) h =
     let q = and_parts (list_all is_in_segment xs) _ p.1 in
     rw (not_dot_from_begins x p.0) (word_dots xs q.0)
 
-cut : (ss : List (List ℕ)) (n : ℕ) → list_all is_segment ss ≡ true → begins_segment_or_ends (drop n (joined ss)) ≡ true → Segments (drop n (joined ss))
+cut : (ss : List (List ℕ)) (n : ℕ) → list_all is_segment ss ≡ true → begins_segment_or_ends (drop n (dotted_text ss)) ≡ true → Segments (drop n (dotted_text ss))
 cut [] zero h b = record { segments = []; each = refl; is = refl }
 cut [] (suc n) h b = record { segments = []; each = refl; is = refl }
 cut (s ∷ ss) zero h b = record { segments = s ∷ ss; each = h; is = refl }
 cut (s ∷ ss) (suc n) h b =
     let p = and_parts (is_segment s) (list_all is_segment ss) h in
-    inside (joined ss) s n (segment_undotted s p.0) (λ k c. cut ss k p.1 c) b
+    inside (dotted_text ss) s n (segment_undotted s p.0) (λ k c. cut ss k p.1 c) b
 
 -- ---- a path below p, cut behind p
 
@@ -117,38 +117,38 @@ pub record Split (ps qs : List (List ℕ)) (x now : Label) : Type 0 where
   pub each : list_all is_segment segments ≡ true
   pub is : x ≡ path_text segments
   pub rest : List (List ℕ)
-  pub from : joined segments ≡ joined ps ++ joined rest
+  pub from : dotted_text segments ≡ dotted_text ps ++ dotted_text rest
   pub to : now ≡ path_text (qs ++ rest)
   pub now_each : list_all is_segment (qs ++ rest) ≡ true
 
 both_true : (a b : Bool) → a ≡ true → b ≡ true → (a && b) ≡ true
 both_true a b h k = rw (h, k) refl
 
-stem-path : (p : Label) (h : IsPath p) → stem p ≡ joined h.segments
+stem-path : (p : Label) (h : IsPath p) → stem p ≡ dotted_text h.segments
 stem-path p h = ap stem h.is ∙ stem-text h.segments h.each
 
 pub split_at : (p q x : Label) (hp : IsPath p) (hq : IsPath q) (hx : IsPath x) → is_at_or_below x p ≡ true → Split hp.segments hq.segments x (moved p q x)
 split_at p q x hp hq hx b =
-    let on : goes_on (joined hx.segments) (joined hp.segments) ≡ true = sym (below-text hx.segments hp.segments hx.each hp.each) ∙ sym (ap (λ (l : Label). is_at_or_below l p) hx.is ∙ ap (is_at_or_below (path_text hx.segments)) hp.is) ∙ b in
-    let parts = and_parts (starts_with nat_eq (joined hx.segments) (joined hp.segments)) _ on in
-    let rest = cut hx.segments (length (joined hp.segments)) hx.each parts.1 in
-    let behind : drop (length (stem p)) (stem x) ≡ joined rest.segments = ap (λ (l : Label). drop (length l) (stem x)) (stem-path p hp) ∙ ap (λ (l : Label). drop (length (joined hp.segments)) l) (stem-path x hx) ∙ rest.is in
+    let on : goes_on (dotted_text hx.segments) (dotted_text hp.segments) ≡ true = sym (below-text hx.segments hp.segments hx.each hp.each) ∙ sym (ap (λ (l : Label). is_at_or_below l p) hx.is ∙ ap (is_at_or_below (path_text hx.segments)) hp.is) ∙ b in
+    let parts = and_parts (starts_with nat_eq (dotted_text hx.segments) (dotted_text hp.segments)) _ on in
+    let rest = cut hx.segments (length (dotted_text hp.segments)) hx.each parts.1 in
+    let behind : drop (length (stem p)) (stem x) ≡ dotted_text rest.segments = ap (λ (l : Label). drop (length l) (stem x)) (stem-path p hp) ∙ ap (λ (l : Label). drop (length (dotted_text hp.segments)) l) (stem-path x hx) ∙ rest.is in
     record {
       segments = hx.segments;
       each = hx.each;
       is = hx.is;
       rest = rest.segments;
-      from = front_of (joined hx.segments) (joined hp.segments) parts.0 ∙ ap (λ (l : Label). joined hp.segments ++ l) rest.is;
-      to = ap (λ (l : Label). path_of (l ++ drop (length (stem p)) (stem x))) (stem-path q hq) ∙ ap (λ (l : Label). path_of (joined hq.segments ++ l)) behind ∙ ap path_of (sym (joined-append hq.segments rest.segments)) ∙ path_of-joined (hq.segments ++ rest.segments);
+      from = front_of (dotted_text hx.segments) (dotted_text hp.segments) parts.0 ∙ ap (λ (l : Label). dotted_text hp.segments ++ l) rest.is;
+      to = ap (λ (l : Label). path_of (l ++ drop (length (stem p)) (stem x))) (stem-path q hq) ∙ ap (λ (l : Label). path_of (dotted_text hq.segments ++ l)) behind ∙ ap path_of (sym (dotted_text-append hq.segments rest.segments)) ∙ path_of-dotted_text (hq.segments ++ rest.segments);
       now_each = list_all-append is_segment hq.segments rest.segments ∙ both_true _ _ hq.each rest.each;
     }
 
 -- the stem of a path at or below p begins with p's
 pub stem_begins : (p x : Label) → IsPath p → IsPath x → is_at_or_below x p ≡ true → stem x ≡ stem p ++ drop (length (stem p)) (stem x)
 stem_begins p x hp hx b =
-    let on : goes_on (joined hx.segments) (joined hp.segments) ≡ true = sym (below-text hx.segments hp.segments hx.each hp.each) ∙ sym (ap (λ (l : Label). is_at_or_below l p) hx.is ∙ ap (is_at_or_below (path_text hx.segments)) hp.is) ∙ b in
-    let parts = and_parts (starts_with nat_eq (joined hx.segments) (joined hp.segments)) _ on in
-    rw (stem-path p hp, stem-path x hx) (front_of (joined hx.segments) (joined hp.segments) parts.0)
+    let on : goes_on (dotted_text hx.segments) (dotted_text hp.segments) ≡ true = sym (below-text hx.segments hp.segments hx.each hp.each) ∙ sym (ap (λ (l : Label). is_at_or_below l p) hx.is ∙ ap (is_at_or_below (path_text hx.segments)) hp.is) ∙ b in
+    let parts = and_parts (starts_with nat_eq (dotted_text hx.segments) (dotted_text hp.segments)) _ on in
+    rw (stem-path p hp, stem-path x hx) (front_of (dotted_text hx.segments) (dotted_text hp.segments) parts.0)
 
 -- the text that is made of stems and what is behind
 pub text_moved : (p q x sx sp sq rest text : Label) (n : ℕ) → sx ≡ stem x → sp ≡ stem p → sq ≡ stem q → n ≡ length sp → rest ≡ drop n sx → text ≡ path_of (sq ++ rest) → text ≡ moved p q x
@@ -174,10 +174,10 @@ pub below_moved : (ps qs : List (List ℕ)) (x y f g : Label) → Split ps qs x 
 below_moved ps qs x y f g a b =
     ap (λ (l : Label). is_at_or_below l g) a.to ∙ ap (is_at_or_below (path_text (qs ++ a.rest))) b.to
     ∙ below-text (qs ++ a.rest) (qs ++ b.rest) a.now_each b.now_each
-    ∙ ap (λ (l : Label). goes_on l (joined (qs ++ b.rest))) (joined-append qs a.rest) ∙ ap (goes_on (joined qs ++ joined a.rest)) (joined-append qs b.rest)
-    ∙ goes_on_behind (joined qs) (joined a.rest) (joined b.rest)
-    ∙ sym (goes_on_behind (joined ps) (joined a.rest) (joined b.rest))
-    ∙ ap (λ (l : Label). goes_on l (joined ps ++ joined b.rest)) (sym a.from) ∙ ap (goes_on (joined a.segments)) (sym b.from)
+    ∙ ap (λ (l : Label). goes_on l (dotted_text (qs ++ b.rest))) (dotted_text-append qs a.rest) ∙ ap (goes_on (dotted_text qs ++ dotted_text a.rest)) (dotted_text-append qs b.rest)
+    ∙ goes_on_behind (dotted_text qs) (dotted_text a.rest) (dotted_text b.rest)
+    ∙ sym (goes_on_behind (dotted_text ps) (dotted_text a.rest) (dotted_text b.rest))
+    ∙ ap (λ (l : Label). goes_on l (dotted_text ps ++ dotted_text b.rest)) (sym a.from) ∙ ap (goes_on (dotted_text a.segments)) (sym b.from)
     ∙ sym (below-text a.segments b.segments a.each b.each)
     ∙ ap (λ (l : Label). is_at_or_below l (path_text b.segments)) (sym a.is) ∙ ap (is_at_or_below x) (sym b.is)
 
@@ -185,10 +185,10 @@ pub before_moved : (ps qs : List (List ℕ)) (x y f g : Label) → Split ps qs x
 before_moved ps qs x y f g a b =
     ap (λ (l : Label). is_before l g) a.to ∙ ap (is_before (path_text (qs ++ a.rest))) b.to
     ∙ before-text (qs ++ a.rest) (qs ++ b.rest) a.now_each b.now_each
-    ∙ ap (λ (l : Label). is_before l (joined (qs ++ b.rest))) (joined-append qs a.rest) ∙ ap (is_before (joined qs ++ joined a.rest)) (joined-append qs b.rest)
-    ∙ before_behind (joined qs) (joined a.rest) (joined b.rest)
-    ∙ sym (before_behind (joined ps) (joined a.rest) (joined b.rest))
-    ∙ ap (λ (l : Label). is_before l (joined ps ++ joined b.rest)) (sym a.from) ∙ ap (is_before (joined a.segments)) (sym b.from)
+    ∙ ap (λ (l : Label). is_before l (dotted_text (qs ++ b.rest))) (dotted_text-append qs a.rest) ∙ ap (is_before (dotted_text qs ++ dotted_text a.rest)) (dotted_text-append qs b.rest)
+    ∙ before_behind (dotted_text qs) (dotted_text a.rest) (dotted_text b.rest)
+    ∙ sym (before_behind (dotted_text ps) (dotted_text a.rest) (dotted_text b.rest))
+    ∙ ap (λ (l : Label). is_before l (dotted_text ps ++ dotted_text b.rest)) (sym a.from) ∙ ap (is_before (dotted_text a.segments)) (sym b.from)
     ∙ sym (before-text a.segments b.segments a.each b.each)
     ∙ ap (λ (l : Label). is_before l (path_text b.segments)) (sym a.is) ∙ ap (is_before x) (sym b.is)
 

@@ -6,7 +6,7 @@ use Rattle.std.proofs.lemmas.Bool.{and_parts}
 use Rattle.std.proofs.lemmas.Bool.Decides.{nat_tests}
 use Rattle.std.proofs.lemmas.List.Sums.{sum_by-cons, sum_by-append}
 use Rattle.std.proofs.lemmas.List.Folds.{list_any_none}
-use Rattle.key_paths.specs.Paths.{is_dot, begins_segment, is_in_segment, is_segment, joined, path_text, IsPath}
+use Rattle.key_paths.specs.Paths.{is_dot, begins_segment, is_in_segment, is_segment, dotted_text, path_text, IsPath}
 use Rattle.key_paths.proofs.Texts.{not_dot_from_begins, not_dot_from_inside}
 use Rattle.programs.specs.Moves.{is_deep}
 
@@ -34,12 +34,12 @@ segment_dots (x ∷ xs) h =
     let q = and_parts (list_all is_in_segment xs) (nat_le (length xs) 63) p.1 in
     count_other x xs (not_dot_from_begins x p.0) ∙ no_dots xs q.0
 
-pub joined_dots : (ss : List (List ℕ)) → list_all is_segment ss ≡ true → count_by is_dot (joined ss) ≡ length ss
-joined_dots [] h = refl
-joined_dots (s ∷ ss) h =
+pub dotted_text_dots : (ss : List (List ℕ)) → list_all is_segment ss ≡ true → count_by is_dot (dotted_text ss) ≡ length ss
+dotted_text_dots [] h = refl
+dotted_text_dots (s ∷ ss) h =
     let p = and_parts (is_segment s) (list_all is_segment ss) h in
-    let first : count_by is_dot (joined (s ∷ ss)) ≡ 1 + count_by is_dot (s ++ joined ss) = count_cons 46 (s ++ joined ss) in
-    omega (arith, first, count_append s (joined ss), segment_dots s p.0, joined_dots ss p.1)
+    let first : count_by is_dot (dotted_text (s ∷ ss)) ≡ 1 + count_by is_dot (s ++ dotted_text ss) = count_cons 46 (s ++ dotted_text ss) in
+    omega (arith, first, count_append s (dotted_text ss), segment_dots s p.0, dotted_text_dots ss p.1)
 
 few_is : (n : ℕ) → n ≤ 8 → nat_lt 8 n ≡ false
 few_is n h = grind (arith, nat_tests)
@@ -50,11 +50,11 @@ is_few n h = grind (arith, nat_tests)
 -- a text of at most eight segments is not deep, and the converse
 pub shallow_text : (ss : List (List ℕ)) → list_all is_segment ss ≡ true → length ss ≤ 8 → is_deep (path_text ss) ≡ false
 shallow_text [] h few = refl
-shallow_text (s ∷ ss) h few = ap (nat_lt 8) (joined_dots (s ∷ ss) h) ∙ few_is (length (s ∷ ss)) few
+shallow_text (s ∷ ss) h few = ap (nat_lt 8) (dotted_text_dots (s ∷ ss) h) ∙ few_is (length (s ∷ ss)) few
 
 pub few_segments : (ss : List (List ℕ)) → list_all is_segment ss ≡ true → is_deep (path_text ss) ≡ false → length ss ≤ 8
 few_segments [] h d = omega arith
-few_segments (s ∷ ss) h d = is_few (length (s ∷ ss)) (ap (nat_lt 8) (sym (joined_dots (s ∷ ss) h)) ∙ d)
+few_segments (s ∷ ss) h d = is_few (length (s ∷ ss)) (ap (nat_lt 8) (sym (dotted_text_dots (s ∷ ss) h)) ∙ d)
 
 pub path_shallow : (p : List ℕ) → IsPath p → is_deep p ≡ false
 path_shallow p h = ap is_deep h.is ∙ shallow_text h.segments h.each h.few
@@ -74,15 +74,15 @@ segment_short (x ∷ xs) h =
     within : (n : ℕ) → nat_le n 63 ≡ true → n + 1 ≤ 64
     within n e = grind (arith, nat_tests)
 
-joined_short : (ss : List (List ℕ)) → list_all is_segment ss ≡ true → length (joined ss) ≤ 65 * length ss
-joined_short [] h = omega arith
-joined_short (s ∷ ss) h =
+dotted_text_short : (ss : List (List ℕ)) → list_all is_segment ss ≡ true → length (dotted_text ss) ≤ 65 * length ss
+dotted_text_short [] h = omega arith
+dotted_text_short (s ∷ ss) h =
     let p = and_parts (is_segment s) (list_all is_segment ss) h in
-    omega (arith, length-append s (joined ss), segment_short s p.0, joined_short ss p.1)
+    omega (arith, length-append s (dotted_text ss), segment_short s p.0, dotted_text_short ss p.1)
 
 text_short : (ss : List (List ℕ)) → list_all is_segment ss ≡ true → length ss ≤ 8 → length (path_text ss) ≤ 520
 text_short [] h few = omega arith
-text_short (s ∷ ss) h few = omega (arith, joined_short (s ∷ ss) h)
+text_short (s ∷ ss) h few = omega (arith, dotted_text_short (s ∷ ss) h)
 
 pub path_short : (p : List ℕ) → IsPath p → length p ≤ 520
 path_short p h = omega (arith, ap (λ (l : List ℕ). length l) h.is, text_short h.segments h.each h.few)

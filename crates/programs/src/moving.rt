@@ -24,7 +24,7 @@ fn stem(p: &Path) -> &str
 }
 
 /// The path of a stem in two parts: where both are empty, the root.
-fn joined(alloc: Global, front: &str, rest: &str) -> Result<String, NoMemory>
+fn path_text(alloc: Global, front: &str, rest: &str) -> Result<String, NoMemory>
     ensures { IfOk result (λ text. string_bytes text ≡ path_of (front.now ++ rest.now)) }
 {
     if front.is_empty() && rest.is_empty() {
@@ -47,7 +47,7 @@ pub fn moved_path(alloc: Global, x: &Path, p: &Path, q: &Path) -> Result<Option<
     let Some(rest) = stem(x).strip_prefix(stem(p)) else {
         unreachable!()
     };
-    let text = joined(alloc, stem(q), rest)?;
+    let text = path_text(alloc, stem(q), rest)?;
     if !is_path(text.as_bytes()) {
         return Ok(None);
     }

@@ -14,7 +14,7 @@ use Rattle.slot_columns.specs.Builders.{BuilderValue}
 use Rattle.slot_columns.specs.Stops.{StopsAt}
 use Rattle.slot_folds.specs.declared.folding.Job.{Job}
 use Rattle.slot_folds.specs.declared.folding.Job.TheVariants.{Fold, Select, Scan}
-use Rattle.control_vectors.specs.Runs.{joined, runs}
+use Rattle.control_vectors.specs.Runs.{runs_with_first, runs}
 use Rattle.slot_folds.specs.Jobs.{unmarked}
 use Rattle.slot_folds.specs.Folds.{holds, chosen, fold_run, select_run, scan_cell, scan_run}
 use Rattle.slot_folds.specs.Jobs.{job_from, job_run, places_of, Extends}
@@ -37,7 +37,7 @@ runs_front mark [] x [] e = refl
 runs_front mark [] x (y ∷ ys) e = absurd (omega (arith, e))
 runs_front mark (true ∷ marks) x xs e = refl
 runs_front mark (false ∷ marks) x [] e = absurd (omega (arith, e))
-runs_front mark (false ∷ marks) x (y ∷ ys) e = ap (joined (false ∷ marks) x) (runs_front false marks y ys (omega (arith, e)))
+runs_front mark (false ∷ marks) x (y ∷ ys) e = ap (runs_with_first (false ∷ marks) x) (runs_front false marks y ys (omega (arith, e)))
 
 pub run_split : {A : Type 0} (marks : List Bool) (ys : List A) (from to : ℕ) → length marks ≡ length ys → from < length marks → to ≡ from + 1 + unmarked (drop (from + 1) marks) → runs (drop from marks) (drop from ys) ≡ slice_range ys from to ∷ runs (drop to marks) (drop to ys)
 run_split marks [] from to e h t = absurd (omega (arith, e))

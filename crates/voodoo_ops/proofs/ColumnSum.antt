@@ -23,7 +23,7 @@ use Rattle.programs.specs.declared.op.FoldArgs.{FoldArgs}
 use Rattle.programs.specs.Vectors.{Vector, Env, Named, column, column_of, nothing, put, tables}
 use Rattle.programs.specs.Outlines.{Outline, no_outline}
 use Rattle.programs.specs.Check.{limit_of}
-use Rattle.control_vectors.specs.Runs.{runs as runs_of, joined, slot_eq, differs, side_by_side, run_marks}
+use Rattle.control_vectors.specs.Runs.{runs as runs_of, runs_with_first, slot_eq, differs, side_by_side, run_marks}
 use Rattle.control_vectors.proofs.RunLaws.{marks_side_by_side}
 use Rattle.slot_folds.specs.Folds.{folded, fold_run}
 use Rattle.voodoo_ops.specs.Attributes.{zipped}
@@ -63,7 +63,7 @@ one_run (x ∷ rest) = true ∷ map (λ z. false) rest
 
 runs_one : (m : Bool) (x : ℤ) (xs : List ℤ) → runs_of (m ∷ map (λ z. false) xs) (some_slots (x ∷ xs)) ≡ some_slots (x ∷ xs) ∷ []
 runs_one m x [] = refl
-runs_one m x (y ∷ xs) = ap (joined (false ∷ map (λ z. false) xs) (Some x)) (runs_one false y xs)
+runs_one m x (y ∷ xs) = ap (runs_with_first (false ∷ map (λ z. false) xs) (Some x)) (runs_one false y xs)
 
 append_none : (cells : List Cell) → cells ++ [] ≡ cells
 append_none [] = refl

@@ -7,7 +7,7 @@ use Rattle.std.proofs.lemmas.List.Filters.{length-filter_both}
 use Rattle.std.proofs.lemmas.List.FromFn.{length-range_with_len, length-map-range_with_len}
 use Rattle.control_vectors.specs.Slots.{Slot, numbers}
 use Rattle.control_vectors.specs.declared.FoldKind.{FoldKind}
-use Rattle.control_vectors.specs.Runs.{runs, joined}
+use Rattle.control_vectors.specs.Runs.{runs, runs_with_first}
 use Rattle.slot_folds.specs.Folds.{folded, fold_run, selected, select_run, chosen, holds, scanned, scan_run, scan_cell}
 use Rattle.slot_moves.specs.Moves.{slot_at, gathered, writer, writers, bucketed}
 use Rattle.slot_moves.specs.Crosses.{left_places, right_places}
@@ -76,17 +76,17 @@ abbrev all_of : {A : Type 0} → List (List A) → ℕ
 all_of [] = 0
 all_of (run ∷ others) = length run + all_of others
 
-joined_all : {A : Type 0} (marks : List Bool) (x : A) (others : List (List A)) → all_of (joined marks x others) ≡ suc (all_of others)
-joined_all [] x others = omega arith
-joined_all (true ∷ marks) x others = omega arith
-joined_all (false ∷ marks) x [] = refl
-joined_all (false ∷ marks) x (run ∷ others) = omega arith
+runs_with_first_all : {A : Type 0} (marks : List Bool) (x : A) (others : List (List A)) → all_of (runs_with_first marks x others) ≡ suc (all_of others)
+runs_with_first_all [] x others = omega arith
+runs_with_first_all (true ∷ marks) x others = omega arith
+runs_with_first_all (false ∷ marks) x [] = refl
+runs_with_first_all (false ∷ marks) x (run ∷ others) = omega arith
 
 runs_all : {A : Type 0} (marks : List Bool) (xs : List A) → length marks ≡ length xs → all_of (runs marks xs) ≡ length xs
 runs_all [] [] e = refl
 runs_all [] (x ∷ xs) e = absurd (omega arith)
 runs_all (mark ∷ marks) [] e = refl
-runs_all (mark ∷ marks) (x ∷ xs) e = joined_all marks x (runs marks xs) ∙ ap suc (runs_all marks xs (omega (arith, e)))
+runs_all (mark ∷ marks) (x ∷ xs) e = runs_with_first_all marks x (runs marks xs) ∙ ap suc (runs_all marks xs (omega (arith, e)))
 
 -- each run has a place
 abbrev NoneEmpty : {A : Type 0} → List (List A) → Type 0
@@ -94,17 +94,17 @@ NoneEmpty [] = Unit {0}
 NoneEmpty ([] ∷ others) = ⊥
 NoneEmpty ((x ∷ run) ∷ others) = NoneEmpty others
 
-joined_none : {A : Type 0} (marks : List Bool) (x : A) (others : List (List A)) → NoneEmpty others → NoneEmpty (joined marks x others)
-joined_none [] x others h = h
-joined_none (true ∷ marks) x others h = h
-joined_none (false ∷ marks) x [] h = tt
-joined_none (false ∷ marks) x ([] ∷ others) h = absurd h
-joined_none (false ∷ marks) x ((y ∷ run) ∷ others) h = h
+runs_with_first_none : {A : Type 0} (marks : List Bool) (x : A) (others : List (List A)) → NoneEmpty others → NoneEmpty (runs_with_first marks x others)
+runs_with_first_none [] x others h = h
+runs_with_first_none (true ∷ marks) x others h = h
+runs_with_first_none (false ∷ marks) x [] h = tt
+runs_with_first_none (false ∷ marks) x ([] ∷ others) h = absurd h
+runs_with_first_none (false ∷ marks) x ((y ∷ run) ∷ others) h = h
 
 runs_none : {A : Type 0} (marks : List Bool) (xs : List A) → NoneEmpty (runs marks xs)
 runs_none [] xs = tt
 runs_none (mark ∷ marks) [] = tt
-runs_none (mark ∷ marks) (x ∷ xs) = joined_none marks x (runs marks xs) (runs_none marks xs)
+runs_none (mark ∷ marks) (x ∷ xs) = runs_with_first_none marks x (runs marks xs) (runs_none marks xs)
 
 flat_long : {A B : Type 0} (f : List A → List B) → KeepsLength f → (rs : List (List A)) → NoneEmpty rs → length (flat_map f rs) ≡ all_of rs
 flat_long f keeps [] h = refl

@@ -6,7 +6,7 @@ use Rattle.std.specs.List.{list_all, prefix_len}
 use Rattle.std.proofs.lemmas.Bool.{and_parts, le-leb}
 use Rattle.std.proofs.lemmas.Bool.Decides.{nat_tests}
 use Rattle.std.proofs.lemmas.List.{take_at, drop_at, length-append}
-use Rattle.key_paths.specs.Paths.{is_dot, begins_segment, is_in_segment, is_segment, joined, path_text, IsPath, is_path}
+use Rattle.key_paths.specs.Paths.{is_dot, begins_segment, is_in_segment, is_segment, dotted_text, path_text, IsPath, is_path}
 use Rattle.voodoo_text.specs.declared.kind.Kind.{Kind}
 use Rattle.voodoo_text.specs.declared.kind.Kind.TheVariants as k
 use Rattle.voodoo_text.specs.Values.{Bytes}
@@ -81,27 +81,27 @@ begins_with : (s z : Bytes) → is_segment s ≡ true → begins_name (s ++ z) �
 begins_with [] z h = cc
 begins_with (b ∷ s) z h = (and_parts (begins_segment b) _ h).0
 
-inner_joined : (segments : List Bytes) (b : ℕ) (rest : Bytes) → list_all is_segment segments ≡ true → Ends b → inner_len (joined segments ++ b ∷ rest) ≡ length (joined segments)
-inner_joined [] b rest h ends = rw (ends.segment, ends.dot) refl
-inner_joined (s ∷ segments) b rest h ends =
+inner_dotted_text : (segments : List Bytes) (b : ℕ) (rest : Bytes) → list_all is_segment segments ≡ true → Ends b → inner_len (dotted_text segments ++ b ∷ rest) ≡ length (dotted_text segments)
+inner_dotted_text [] b rest h ends = rw (ends.segment, ends.dot) refl
+inner_dotted_text (s ∷ segments) b rest h ends =
     let both = and_parts (is_segment s) (list_all is_segment segments) h in
-    let tail = joined segments ++ b ∷ rest in
+    let tail = dotted_text segments ++ b ∷ rest in
     let inner = inner_segment s tail (segment_inside s both.0) in
-    let others = inner_joined segments b rest both.1 ends in
-    rw (append_assoc s (joined segments) (b ∷ rest), begins_with s tail both.0) (omega (arith, inner, others, length-append s (joined segments)))
+    let others = inner_dotted_text segments b rest both.1 ends in
+    rw (append_assoc s (dotted_text segments) (b ∷ rest), begins_with s tail both.0) (omega (arith, inner, others, length-append s (dotted_text segments)))
 
 path_len : (segments : List Bytes) (b : ℕ) (rest : Bytes) → list_all is_segment segments ≡ true → Ends b → after_dot_len (drop 1 (path_text segments ++ b ∷ rest)) + 1 ≡ length (path_text segments)
 path_len [] b rest h ends = rw (no_begin b ends.segment) refl
 path_len (s ∷ segments) b rest h ends =
     let both = and_parts (is_segment s) (list_all is_segment segments) h in
-    let tail = joined segments ++ b ∷ rest in
+    let tail = dotted_text segments ++ b ∷ rest in
     let inner = inner_segment s tail (segment_inside s both.0) in
-    let others = inner_joined segments b rest both.1 ends in
-    rw (append_assoc s (joined segments) (b ∷ rest), begins_with s tail both.0) (omega (arith, inner, others, length-append s (joined segments)))
+    let others = inner_dotted_text segments b rest both.1 ends in
+    rw (append_assoc s (dotted_text segments) (b ∷ rest), begins_with s tail both.0) (omega (arith, inner, others, length-append s (dotted_text segments)))
 
 path_dot : (segments : List Bytes) → (rest : Bytes) × (path_text segments ≡ 46 ∷ rest)
 path_dot [] = ([], refl)
-path_dot (s ∷ segments) = (s ++ joined segments, refl)
+path_dot (s ∷ segments) = (s ++ dotted_text segments, refl)
 
 path_front : (after_name : Bool) (p : Bytes) (b : ℕ) (rest : Bytes) → IsPath p → Ends b → front after_name (p ++ b ∷ rest) ≡ piece (path_kind after_name) (length p)
 unfolding front
