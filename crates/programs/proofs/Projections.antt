@@ -1,5 +1,5 @@
 -- The paths of a projection: they ascend, and where one of them is too deep, none clash.
-use Rattle.std.proofs.Common.{◌≡◌, ℕ, ◌+◌, ◌<◌, ◌≤◌, Bool, true, false, ◌&&◌, ◌||◌, not, List, [], ◌∷◌, ◌++◌, length, drop, get_or, map, refl, sym, ap, ◌∙◌, append_assoc, append-nil, if◌then◌else◌, None}
+use Rattle.std.proofs.Common.{◌≡◌, ℕ, ◌+◌, ◌<◌, ◌≤◌, Bool, true, false, ◌&&◌, ◌||◌, not, List, [], ◌∷◌, ◌++◌, length, drop, get_or, map, arith, refl, sym, ap, ◌∙◌, append_assoc, append-nil, if◌then◌else◌, None}
 use Rattle.std.specs.Prelude.{All, filter}
 use Rattle.std.specs.List.{list_all, list_any}
 use Rattle.std.proofs.lemmas.Bool.{and_parts, false≢true}
@@ -59,6 +59,11 @@ rises_filter f o c =
 
 pub rises_projected : (p q : Label) (o : Outline) → IsPath p → IsPath q → IsClear o → Rises (projected p q o.paths)
 rises_projected p q o hp hq c = rises_map p q (filter (λ x. is_at_or_below x p) o.paths) (under_filter p q o.paths hp hq c.paths) (rises_filter (λ x. is_at_or_below x p) o c)
+
+-- what rises where it has a member rises
+pub rises_some : (xs : List Label) → (0 < length xs → Rises xs) → Rises xs
+rises_some [] h = tt
+rises_some (x ∷ xs) h = h (omega arith)
 
 -- ---- clashes
 

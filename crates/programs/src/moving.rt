@@ -1,6 +1,6 @@
 //! Paths with another beginning.
 
-ghost use Rattle.std.specs.Prelude.{◌≡◌, ◌≤◌, ◌++◌, true, length, string_bytes, IfOk};
+ghost use Rattle.std.specs.Prelude.{◌≡◌, ◌≤◌, ◌++◌, true, length, string_bytes, IfOk, OnOk};
 ghost use Rattle.key_paths.specs.Paths.{IsPath};
 ghost use Rattle.key_paths.specs.Substructures.{is_at_or_below};
 ghost use Rattle.programs.specs.Moves as spec;
@@ -42,7 +42,9 @@ fn path_text(alloc: Global, front: &str, rest: &str) -> Result<String, NoMemory>
 /// `NoMemory` where the new path's text cannot be had.
 pub fn moved_path(alloc: Global, x: &Path, p: &Path, q: &Path) -> Result<Option<Path>, NoMemory>
     requires { is_at_or_below x.now p.now ≡ true }
-    ensures { IfOk result (λ o. MovesTo o (moved p.now q.now x.now)) }
+    ensures moved { IfOk result (λ o. MovesTo o (moved p.now q.now x.now)) }
+    ensures from { OnOk result (IsPath p.now) }
+    ensures to { OnOk result (IsPath q.now) }
 {
     let Some(rest) = stem(x).strip_prefix(stem(p)) else {
         unreachable!()
@@ -65,7 +67,6 @@ pub(crate) fn projected_draft(
 ) -> Result<Option<Draft>, NoMemory>
     ensures { IfOk result (λ d. Drafts d (outlined a.now.len (projected p.now q.now a.now.paths))) }
 {
-    let _paths = (p.is_root(), q.is_root());
     let paths = a.paths();
     let mut moved = Vec::new(alloc);
     for path in paths {

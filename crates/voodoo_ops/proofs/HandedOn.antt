@@ -1,7 +1,8 @@
 -- The vectors that Project and Upsert make.
-use Rattle.std.proofs.Common.{◌≡◌, ℕ, suc, ◌+◌, Bool, true, false, ◌||◌, not, cond, List, [], ◌∷◌, map, filter, length, refl, sym, ap, ◌∙◌, arith, subst, if◌then◌else◌}
+use Rattle.std.proofs.Common.{◌≡◌, ℕ, suc, ◌+◌, ◌<◌, Bool, true, false, ◌||◌, not, cond, List, [], ◌∷◌, map, filter, length, refl, sym, ap, ◌∙◌, arith, subst, if◌then◌else◌}
 use Rattle.std.specs.Prelude.{All}
 use Rattle.std.specs.List.{list_any, prefix_len, insert}
+use Rattle.std.proofs.lemmas.List.{length-map}
 use Rattle.std.proofs.lemmas.List.Elements.{All-nil, All-cons, All-head, All-tail, All-map, All-filter}
 use Rattle.control_vectors.specs.Slots.{Slot}
 use Rattle.key_paths.specs.Paths.{IsPath}
@@ -18,7 +19,7 @@ use Rattle.programs.specs.Outlines.{outlined, outline_of}
 use Rattle.programs.specs.Faults.{path_clash, all_apart, IsClear}
 use Rattle.programs.proofs.Merging.{merged-map, merged-all, rises_merged, rises_ascending}
 use Rattle.programs.proofs.Nesting.{apart_in_order}
-use Rattle.programs.proofs.Projections.{rises_filter, rises_projected}
+use Rattle.programs.proofs.Projections.{rises_filter, rises_projected, rises_some}
 use Rattle.voodoo_ops.specs.Attributes.{comes_before, projected, resized, upserted}
 use Rattle.voodoo_ops.specs.Columns.{Attributes, earlier, moved_columns, others_of}
 use Rattle.voodoo_ops.proofs.Listed.{seen_moved, seen_others, length-resized}
@@ -52,14 +53,14 @@ project_seen n p q v w items e is same =
     ∙ ap (λ (k : ℕ). let u : Vector = record { len = k; attributes = (projected (seen v) p q).attributes } in u) e
     ∙ ap (λ (u : Vector). projected u p q) same
 
-pub project_shaped : (n : ℕ) (p q : Label) (v : VectorValue) (w : Vector) (items : Attributes) → n ≡ v.length → items ≡ moved_columns p q v.attributes → seen v ≡ w → IsShaped v → IsPath p → IsPath q → All IsPath (paths_of items) → path_clash (outline_of (projected w p q)) ≡ false → IsShaped (vector_of n items)
-project_shaped n p q v w items e is same s hp hq each clear =
+pub project_shaped : (n : ℕ) (p q : Label) (v : VectorValue) (w : Vector) (items : Attributes) → n ≡ v.length → items ≡ moved_columns p q v.attributes → seen v ≡ w → IsShaped v → (0 < length items → IsPath p × IsPath q) → All IsPath (paths_of items) → path_clash (outline_of (projected w p q)) ≡ false → IsShaped (vector_of n items)
+project_shaped n p q v w items e is same s ends each clear =
     let names : paths_of items ≡ paths.projected p q (paths_of v.attributes) = ap (λ (l : Attributes). paths_of l) is ∙ paths-moved p q v.attributes in
     shaped_by n items
     (omega (arith, e, s.short))
     (subst (HaveLength n) (sym is) (All-map (λ a. length a.1.slots ≡ n) (λ t. (moved p q t.0, t.1)) (filter (λ t. is_at_or_below t.0 p) v.attributes) (All-filter (λ t. is_at_or_below t.0 p) (λ a. length a.1.slots ≡ n) v.attributes (subst (λ (k : ℕ). HaveLength k v.attributes) (sym e) s.lengths))))
     each
-    (subst Rises (sym names) (rises_projected p q (outlined v.length (paths_of v.attributes)) hp hq (clear_shaped v s)))
+    (rises_some (paths_of items) (λ h. let both = ends (omega (arith, h, length-map items (λ (a : Label × ColumnValue). a.0))) in subst Rises (sym names) (rises_projected p q (outlined v.length (paths_of v.attributes)) both.0 both.1 (clear_shaped v s))))
     (ap (λ (u : Vector). path_clash (outline_of u)) (project_seen n p q v w items e is same) ∙ clear)
 
 -- ---- Upsert

@@ -41,8 +41,6 @@ pub(crate) fn project_made(
     requires shallow { too_deep (outline_of (projected (known ((env_in made.now) a.now)) p.now q.now)) ≡ false }
     ensures { Exact seen result (Ok (projected (known ((env_in made.now) a.now)) p.now q.now)) }
 {
-    let _is_path = p.is_root();
-    let _is_path = q.is_root();
     let v = vector(made, a);
     let attributes = moved_attributes(alloc, v, p, q)?;
     Ok(StructVector::of_ordered(alloc, v.len(), attributes)?)
@@ -58,6 +56,7 @@ fn moved_attributes(
     requires { too_deep (outline_of (projected (seen v.now) p.now q.now)) ≡ false }
     ensures moved { IfOk result (λ r. r.items ≡ moved_columns p.now q.now v.now.attributes) }
     ensures paths { IfOk result (λ r. All IsPath (paths_of r.items)) }
+    ensures ends { IfOk result (λ r. 0 < length r.items → IsPath p.now × IsPath q.now) }
 {
     let mut attributes = Vec::new(alloc);
     for k in 0..v.paths().len() {
@@ -83,6 +82,8 @@ fn push_moved(
     ensures pushed { OnOk result (attributes.new.items
         ≡ attributes.old.items ++ (moved p.now q.now (path_at v.now k), column_at v.now k) ∷ []) }
     ensures path { OnOk result (IsPath (moved p.now q.now (path_at v.now k))) }
+    ensures from { OnOk result (IsPath p.now) }
+    ensures to { OnOk result (IsPath q.now) }
 {
     let Some(path) = moved_path(alloc, &v.paths()[k], p, q)? else {
         unreachable!()

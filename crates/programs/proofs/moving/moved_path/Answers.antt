@@ -17,8 +17,8 @@ is_path-requires c =
     let cases = c.in-Some.ensures.cases in
     text_fits c.stem-3.result.now c.in-Some.rest.now c.as_bytes.result.now c.stem-3.ensures.short (omega (arith, cases.3, c.stem.ensures.short)) (c.as_bytes.ensures.value ∙ c.in_ok-text.ensures)
 
-pub returns-then-not-is_path : goal.returns-then-not-is_path
-returns-then-not-is_path c =
+pub returns-then-not-is_path-clause-moved : goal.returns-then-not-is_path-clause-moved
+returns-then-not-is_path-clause-moved c =
     let cases = c.in-Some.ensures.cases in
     let p = c.args.p.now in
     let q = c.args.q.now in
@@ -31,8 +31,8 @@ returns-then-not-is_path c =
 pub of-requires : goal.of-requires
 of-requires c = subst IsPath (c.as_bytes.ensures.value ∙ sym c.as_str.ensures.value) (c.is_path.ensures.path.0 c.if-not-is_path.false)
 
-pub returns : goal.returns
-returns c =
+pub returns-clause-moved : goal.returns-clause-moved
+returns-clause-moved c =
     let cases = c.in-Some.ensures.cases in
     let p = c.args.p.now in
     let q = c.args.q.now in

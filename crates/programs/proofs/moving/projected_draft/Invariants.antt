@@ -1,4 +1,4 @@
-use Rattle.std.proofs.Common.{◌≡◌, ◌++◌, drop}
+use Rattle.std.proofs.Common.{◌≡◌, ◌++◌, ◌<◌, drop, length}
 use Rattle.std.specs.Prelude.{All}
 use Rattle.key_paths.specs.Paths.{IsPath}
 use Rattle.programs.specs.Moves.{projected}
@@ -8,4 +8,5 @@ abbrev pub invariant-loop-path : goal.invariant-loop-path
 invariant-loop-path l = record {
   so_far : l.moved.items ++ projected l.p l.q (drop l.path-index l.paths) ≡ projected l.p l.q l.paths;
   each : All IsPath l.moved.items;
+  ends : 0 < length l.moved.items → IsPath l.p × IsPath l.q;
 }

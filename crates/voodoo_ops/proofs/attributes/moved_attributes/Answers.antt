@@ -38,10 +38,12 @@ loop-k-preserved c =
           rw w.attributes-is (record {
             moved = moved_more p q v c.loop-k.k c.loop-k.attributes.items _ h (is ∙ w.if-starts_with.true) w.in_ok-push_moved.ensures.pushed c.loop-k.invariant.moved;
             paths = paths_pushed c.loop-k.attributes.items _ _ _ w.in_ok-push_moved.ensures.pushed w.in_ok-push_moved.ensures.path c.loop-k.invariant.paths;
+            ends = λ h. (w.in_ok-push_moved.ensures.from, w.in_ok-push_moved.ensures.to);
           })
       | else-starts_with w ↦
           rw w.attributes-is (record {
             moved = moved_same p q v c.loop-k.k c.loop-k.attributes.items h (is ∙ w.if-starts_with.false) c.loop-k.invariant.moved;
             paths = c.loop-k.invariant.paths;
+            ends = c.loop-k.invariant.ends;
           })
     ]

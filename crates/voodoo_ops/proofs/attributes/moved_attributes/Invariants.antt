@@ -1,4 +1,4 @@
-use Rattle.std.proofs.Common.{◌≡◌, take}
+use Rattle.std.proofs.Common.{◌≡◌, ◌<◌, length, take}
 use Rattle.std.specs.Prelude.{All}
 use Rattle.key_paths.specs.Paths.{IsPath}
 use Rattle.struct_vectors.specs.Vectors.{paths_of}
@@ -9,4 +9,5 @@ abbrev pub invariant-loop-k : goal.invariant-loop-k
 invariant-loop-k l = record {
   moved : l.attributes.items ≡ moved_columns l.p l.q (take l.k l.v.attributes);
   paths : All IsPath (paths_of l.attributes.items);
+  ends : 0 < length l.attributes.items → IsPath l.p × IsPath l.q;
 }

@@ -8,7 +8,7 @@ use Rattle.voodoo_ops.proofs.attributes.project_made.Goals as goal
 
 pub of_ordered-requires : goal.of_ordered-requires
 of_ordered-requires c =
-    project_shaped c.len.result c.args.p.now c.args.q.now c.vector-v.result.now (known (env_in c.args.made.now c.args.a.now)) c.in_ok-attributes.attributes.items c.len.ensures.len c.in_ok-attributes.ensures.moved c.vector-v.ensures.vector c.vector-v.ensures.shaped c.is_root-is_path.ensures.path c.is_root-is_path-2.ensures.path c.in_ok-attributes.ensures.paths c.requires.clear
+    project_shaped c.len.result c.args.p.now c.args.q.now c.vector-v.result.now (known (env_in c.args.made.now c.args.a.now)) c.in_ok-attributes.attributes.items c.len.ensures.len c.in_ok-attributes.ensures.moved c.vector-v.ensures.vector c.vector-v.ensures.shaped c.in_ok-attributes.ensures.ends c.in_ok-attributes.ensures.paths c.requires.clear
 
 pub returns : goal.returns
 returns c =
