@@ -33,20 +33,20 @@ use Rattle.voodoo_text.specs.declared.read_text.ReadProgram.{ReadProgram}
 use Rattle.voodoo_text.specs.declared.refusal.TextRefusal.{TextRefusal}
 use Rattle.voodoo_text.specs.declared.refusal.TextRefusal.TheVariants as algebra
 use Rattle.voodoo_text.specs.Reading.{read_text}
-use Rattle.voodoo_cmd.specs.declared.status.UsageKind.TheVariants as usage
-use Rattle.voodoo_cmd.specs.declared.status.FileRole.{FileRole}
-use Rattle.voodoo_cmd.specs.declared.status.FileRole.TheVariants.{Schema, Table, Text}
-use Rattle.voodoo_cmd.specs.declared.status.SchemaCause.TheVariants as cause
-use Rattle.voodoo_cmd.specs.declared.status.QueryCause.TheVariants as query_cause
-use Rattle.voodoo_cmd.specs.declared.status.AlgebraCause.TheVariants as algebra_cause
-use Rattle.voodoo_cmd.specs.declared.status.LimitWhat.TheVariants.{File, Slots}
-use Rattle.voodoo_cmd.specs.declared.status.Status.TheVariants.{Usage, ReadFault, SchemaRefused, DataRefused, QueryRefused, AlgebraRefused, LimitReached, NotYet, Overflow}
-use Rattle.voodoo_cmd.specs.Inputs as n
-use Rattle.voodoo_cmd.specs.Outcomes.{or_refuse, ◌>>=◌}
-use Rattle.voodoo_cmd.specs.Paths.{table_file}
-use Rattle.voodoo_cmd.specs.Words.{word_at, mode_of, are_options, request_for, request_of}
-use Rattle.voodoo_cmd.specs.Steps as s
-use Rattle.voodoo_cmd.specs.Expected as x
+use Rattle.run_steps.specs.declared.status.UsageKind.TheVariants as usage
+use Rattle.run_steps.specs.declared.status.FileRole.{FileRole}
+use Rattle.run_steps.specs.declared.status.FileRole.TheVariants.{Schema, Table, Text}
+use Rattle.run_steps.specs.declared.status.SchemaCause.TheVariants as cause
+use Rattle.run_steps.specs.declared.status.QueryCause.TheVariants as query_cause
+use Rattle.run_steps.specs.declared.status.AlgebraCause.TheVariants as algebra_cause
+use Rattle.run_steps.specs.declared.status.LimitWhat.TheVariants.{File, Slots}
+use Rattle.run_steps.specs.declared.status.Status.TheVariants.{Usage, ReadFault, SchemaRefused, DataRefused, QueryRefused, AlgebraRefused, LimitReached, NotYet, Overflow}
+use Rattle.run_steps.specs.Inputs as n
+use Rattle.run_steps.specs.Outcomes.{or_refuse, ◌>>=◌}
+use Rattle.run_steps.specs.Paths.{table_file}
+use Rattle.run_steps.specs.Words.{word_at, mode_of, are_options, request_for, request_of}
+use Rattle.run_steps.specs.Steps as s
+use Rattle.run_steps.specs.Expected as x
 use Rattle.run_laws.specs.Laws.{ExpectedLaw}
 use Rattle.run_laws.proofs.RunSteps.{Reports, reports_value, reports_refusal, reports_either, reports_or, reports_then, reports_with, Each, each_none, each_some, each_either, each_map, each_so}
 use Rattle.run_laws.proofs.SchemaTexts.{schema_law}

@@ -2,9 +2,9 @@
 use Rattle.std.proofs.Common.{◌≡◌, Bool, true, false, Ok, Err, Some, None, refl, ap, subst, if◌then◌else◌}
 use Rattle.std.specs.Prelude.{Option}
 use Rattle.std.specs.Option.{option_map}
-use Rattle.voodoo_cmd.specs.declared.status.Status.{Status}
-use Rattle.voodoo_cmd.specs.declared.status.Status.TheVariants.{NoMemory}
-use Rattle.voodoo_cmd.specs.Outcomes.{Outcome, or_refuse, ◌>>=◌}
+use Rattle.run_steps.specs.declared.status.Status.{Status}
+use Rattle.run_steps.specs.declared.status.Status.TheVariants.{NoMemory}
+use Rattle.run_steps.specs.Outcomes.{Outcome, or_refuse, ◌>>=◌}
 
 pub record Reports {A : Type 0} (o : Outcome A) : Type 0 where
   pub never : o ≡ Err NoMemory → ⊥

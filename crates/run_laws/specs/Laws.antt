@@ -16,8 +16,8 @@ use Rattle.query_types.specs.declared.refusal.TypeRefusal.TheVariants as typing
 use Rattle.query_types.specs.Typing.{typed_query}
 use Rattle.voodoo_text.specs.declared.refusal.TextRefusal.TheVariants as algebra
 use Rattle.voodoo_text.specs.Reading.{read_text}
-use Rattle.voodoo_cmd.specs.declared.status.Status.TheVariants as status
-use Rattle.voodoo_cmd.specs.Expected.{expected}
+use Rattle.run_steps.specs.declared.status.Status.TheVariants as status
+use Rattle.run_steps.specs.Expected.{expected}
 
 -- a text is a schema, or it is refused at a byte
 abbrev pub SchemaLaw : Type 0

@@ -3,9 +3,9 @@ use Rattle.std.proofs.Common.{List, ℕ, Ok, Err, Some, None, inl, inr}
 use Rattle.std.specs.Prelude.{Option, IfSome}
 use Rattle.std.proofs.KnownBytes.{Appends-nil, Keeps-refl}
 use Rattle.io_edge.specs.Shelves.{FileMap}
-use Rattle.voodoo_cmd.specs.declared.status.Status.{Status}
-use Rattle.voodoo_cmd.specs.declared.status.Status.TheVariants.{Done, Usage, ReadFault, WriteFault, SchemaRefused, DataRefused, QueryRefused, AlgebraRefused, LimitReached, Overflow, NotYet, NoMemory}
-use Rattle.voodoo_cmd.specs.Outcomes.{Outcome, Meets}
+use Rattle.run_steps.specs.declared.status.Status.{Status}
+use Rattle.run_steps.specs.declared.status.Status.TheVariants.{Done, Usage, ReadFault, WriteFault, SchemaRefused, DataRefused, QueryRefused, AlgebraRefused, LimitReached, Overflow, NotYet, NoMemory}
+use Rattle.run_steps.specs.Outcomes.{Outcome, Meets}
 use Rattle.voodoo_cmd.specs.RunEffects.{Answers, Writes}
 
 writes : (text : List ℕ) (status : Status) (old new : Option (List ℕ)) → Writes text status old new → Answers (Ok text) status old new

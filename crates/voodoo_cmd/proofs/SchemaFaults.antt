@@ -5,16 +5,16 @@ use Rattle.io_edge.specs.Faults.{Rose}
 use Rattle.io_edge.specs.Shelves.{FileMap}
 use Rattle.sql_read.specs.declared.definition.TableDef.{TableDef}
 use Rattle.sql_types.specs.Catalog.{findings}
-use Rattle.voodoo_cmd.specs.declared.status.FileRole.{FileRole}
-use Rattle.voodoo_cmd.specs.declared.status.FileRole.TheVariants.{Schema, Table, Text}
-use Rattle.voodoo_cmd.specs.declared.status.Status.{Status}
-use Rattle.voodoo_cmd.specs.declared.status.Status.TheVariants.{Done, Usage, ReadFault, WriteFault, SchemaRefused, DataRefused, QueryRefused, AlgebraRefused, LimitReached, Overflow, NotYet, NoMemory}
-use Rattle.voodoo_cmd.specs.Expected.{schema_file_read}
+use Rattle.run_steps.specs.declared.status.FileRole.{FileRole}
+use Rattle.run_steps.specs.declared.status.FileRole.TheVariants.{Schema, Table, Text}
+use Rattle.run_steps.specs.declared.status.Status.{Status}
+use Rattle.run_steps.specs.declared.status.Status.TheVariants.{Done, Usage, ReadFault, WriteFault, SchemaRefused, DataRefused, QueryRefused, AlgebraRefused, LimitReached, Overflow, NotYet, NoMemory}
+use Rattle.run_steps.specs.Expected.{schema_file_read}
 use Rattle.voodoo_cmd.specs.RunEffects.{IsSchemaRole, SchemaFaultHasCause}
-use Rattle.voodoo_cmd.specs.TableFaults.{IsNumbered, TableFault, HasTableFault, HasTablesCause}
-use Rattle.voodoo_cmd.specs.Steps.{catalog_in}
+use Rattle.run_steps.specs.TableFaults.{IsNumbered, TableFault, HasTableFault, HasTablesCause}
+use Rattle.run_steps.specs.Steps.{catalog_in}
 use Rattle.table_load.proofs.Limits.{few_tables}
-use Rattle.voodoo_cmd.proofs.TablesLaws.{rose_earlier}
+use Rattle.run_steps.proofs.TablesLaws.{rose_earlier}
 
 role_of_number : (defs : List TableDef) (role : FileRole) → length defs ≤ 16 → IsNumbered defs role → IsSchemaRole role
 role_of_number defs Schema few h = absurd h

@@ -1,11 +1,2 @@
-pub mod Statuses
-pub mod Outcomes
-pub mod Words
-pub mod Paths
-pub mod Inputs
-pub mod Steps
-pub mod TableFaults
-pub mod Narrow
-pub mod Expected
 pub mod RunEffects
 pub mod AnswerTexts

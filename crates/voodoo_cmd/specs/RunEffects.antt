@@ -4,12 +4,12 @@ use Rattle.std.specs.Io.KnownBytes.{Appends, Keeps}
 use Rattle.io_edge.specs.Faults.{Rose}
 use Rattle.io_edge.specs.Shelves.{FileMap}
 use Rattle.io_edge.specs.Sinks.{AppendsPrefix}
-use Rattle.voodoo_cmd.specs.declared.status.FileRole.{FileRole}
-use Rattle.voodoo_cmd.specs.declared.status.FileRole.TheVariants.{Schema, Table, Text}
-use Rattle.voodoo_cmd.specs.declared.status.Status.{Status}
-use Rattle.voodoo_cmd.specs.declared.status.Status.TheVariants.{Done, ReadFault, WriteFault, NoMemory}
-use Rattle.voodoo_cmd.specs.Outcomes.{Outcome, IsReadFault}
-use Rattle.voodoo_cmd.specs.Expected.{file_read, schema_file_read}
+use Rattle.run_steps.specs.declared.status.FileRole.{FileRole}
+use Rattle.run_steps.specs.declared.status.FileRole.TheVariants.{Schema, Table, Text}
+use Rattle.run_steps.specs.declared.status.Status.{Status}
+use Rattle.run_steps.specs.declared.status.Status.TheVariants.{Done, ReadFault, WriteFault, NoMemory}
+use Rattle.run_steps.specs.Outcomes.{Outcome, IsReadFault}
+use Rattle.run_steps.specs.Expected.{file_read, schema_file_read}
 
 -- Done with the whole text; a write fault or want of memory with a prefix of it; a read fault with nothing written.
 -- A refusal with nothing written, or in its place a read fault or want of memory with nothing written.

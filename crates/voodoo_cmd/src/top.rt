@@ -4,25 +4,22 @@ ghost use Rattle.std.specs.Prelude.{◌≡◌, ◌≤◌, ◌⊎◌, ◌↔◌, 
 ghost use Rattle.std.specs.Io.KnownBytes.{Appends, Keeps};
 ghost use Rattle.io_edge.specs.Faults.{Rose};
 ghost use Rattle.io_edge.specs.Sinks.{AppendsPrefix};
-ghost use Rattle.voodoo_cmd.specs.Expected.{expected};
+ghost use Rattle.run_steps.specs.Expected.{expected};
 ghost use Rattle.voodoo_cmd.specs.AnswerTexts.{text_given};
-ghost use Rattle.voodoo_cmd.specs.Inputs.{IsFileRefusal};
+ghost use Rattle.run_steps.specs.Inputs.{IsFileRefusal};
 ghost use Rattle.voodoo_cmd.specs.RunEffects.{Answers, IsRefusal, ReadFaultHasCause, SchemaFaultHasCause, MayHaveWritten, Writes};
-ghost use Rattle.voodoo_cmd.specs.Narrow.{IsNarrowStore};
-ghost use Rattle.voodoo_cmd.specs.Outcomes.{Meets};
-ghost use Rattle.voodoo_cmd.specs.Statuses.{status_line};
-ghost use Rattle.voodoo_cmd.specs.Steps.{database_in};
-ghost use Rattle.voodoo_cmd.specs.Words as words_spec;
+ghost use Rattle.run_steps.specs.Narrow.{IsNarrowStore};
+ghost use Rattle.run_steps.specs.Outcomes.{Meets};
+ghost use Rattle.run_steps.specs.Statuses.{status_line};
+ghost use Rattle.run_steps.specs.Steps.{database_in};
+ghost use Rattle.run_steps.specs.Words as words_spec;
 
-use crate::line::write_line;
-use crate::program_step::{read_runnable, results_of};
-use crate::query_step::query_answer;
-use crate::schema_step::read_catalog;
-use crate::status::{Status, UsageKind};
-use crate::tables_step::read_tables;
-use crate::words::{Mode, request_of};
 use io_edge::{Failed, Name, Shelf, Sink, write_all};
 use row_print::{PrintRefusal, write_results};
+use run_steps::{
+    Mode, Status, UsageKind, query_answer, read_catalog, read_runnable, read_tables, request_of,
+    results_of, write_line,
+};
 use sql_types::Catalog;
 use std::alloc::Global;
 use table_load::{Database, finish};

@@ -1,8 +1,8 @@
 use Rattle.std.proofs.Common.{◌≡◌, refl}
 use Rattle.std.specs.Prelude.{IfSome, Ok}
 use Rattle.table_load.specs.Databases as databases
-use Rattle.voodoo_cmd.specs.Steps.{catalog_in}
-use Rattle.voodoo_cmd.proofs.NarrowStores.{narrow-database}
+use Rattle.run_steps.specs.Steps.{catalog_in}
+use Rattle.run_steps.proofs.NarrowStores.{narrow-database}
 use Rattle.voodoo_cmd.proofs.SchemaFaults.{schema_fault}
 use Rattle.voodoo_cmd.proofs.top.read_database.Goals as goal
 

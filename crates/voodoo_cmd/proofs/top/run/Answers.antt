@@ -4,8 +4,8 @@ use Rattle.std.specs.Io.KnownBytes.{Appends}
 use Rattle.std.proofs.lemmas.List.{take_all}
 use Rattle.io_edge.specs.Sinks.{AppendsPrefix}
 use Rattle.io_edge.specs.Shelves.{FileMap}
-use Rattle.voodoo_cmd.specs.Outcomes.{Outcome}
-use Rattle.voodoo_cmd.specs.Expected.{expected}
+use Rattle.run_steps.specs.Outcomes.{Outcome}
+use Rattle.run_steps.specs.Expected.{expected}
 use Rattle.voodoo_cmd.specs.AnswerTexts.{text_given}
 use Rattle.voodoo_cmd.proofs.Answered.{Answers-written, Answers-refused}
 use Rattle.voodoo_cmd.proofs.top.run.Goals as goal

@@ -1,0 +1,4 @@
+pub mod Folders
+pub mod NarrowStores
+pub mod TablesLaws
+pub mod Then
