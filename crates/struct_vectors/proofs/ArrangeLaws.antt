@@ -119,9 +119,9 @@ all_paths_of P xs h k d l =
     let e : (get_or xs k (d, some_column)).0 ≡ get_or (paths_of xs) k d = same_Some _ _ (sym (path_of_at xs k (d, some_column) (omega (arith, length-paths_of xs))) ∙ slice_get-get_or (paths_of xs) k d l) in
     subst P e (h k (d, some_column) (omega (arith, length-paths_of xs)))
 
-pub shaped_of : (n : ℕ) (given xs : List (List ℕ × ColumnValue)) → n ≤ 2 ^ 22 → All IsPath (paths_of given) → All (λ a. IsBelowRoot a.0) given → HaveLength n given → IsPermutation given xs → IsSortedByKey (λ a. a.0) (slice_cmp nat_cmp) xs → HasNoClash (paths_of xs) → IsShaped (vector_of n xs)
+pub shaped_of : (n : ℕ) (given xs : List (List ℕ × ColumnValue)) → n ≤ 2 ^ 22 → All (λ a. IsPath a.0) given → All (λ a. IsBelowRoot a.0) given → HaveLength n given → IsPermutation given xs → IsSortedByKey (λ a. a.0) (slice_cmp nat_cmp) xs → HasNoClash (paths_of xs) → IsShaped (vector_of n xs)
 shaped_of n given xs short each named long same sorted apart =
-    let paths : All IsPath (paths_of xs) = All-permutation IsPath (paths_of given) (paths_of xs) (same_paths given xs same) each in
+    let paths : All IsPath (paths_of xs) = all_paths_of IsPath xs (All-permutation (λ (a : List ℕ × ColumnValue). IsPath a.0) given xs same each) in
     let chain = chain_of (paths_of xs) (rise_of_sorted xs sorted) apart in
     record {
       short = short;

@@ -50,7 +50,6 @@ impl StructVector {
         requires short { n ≤ 2 ^ 22 }
         requires some { 1 ≤ vec_len attributes }
         requires few { vec_len attributes < 2 ^ 32 }
-        requires paths { All IsPath (paths_of attributes.items) }
         requires named { All (λ a. IsBelowRoot a.0) attributes.items }
         ensures length { IfOk result (λ v. v.length ≡ n) }
         ensures attributes { IfOk result (λ v. IsArranged attributes.items v.attributes) }
@@ -60,6 +59,7 @@ impl StructVector {
         if let Some(attribute) = first_of_other_length(n, attributes.as_slice()) {
             return Err(ShapeRefusal::LengthDiffers { attribute });
         }
+        see_paths(attributes.as_slice());
         let mut attributes = attributes;
         sort_by_path(&mut attributes);
         if let Some(place) = first_clash(attributes.as_slice()) {
@@ -75,10 +75,10 @@ impl StructVector {
 
     /// The vector of one attribute, as long as its column.
     pub fn of_column(alloc: Global, path: Path, column: Column) -> Result<StructVector, NoMemory>
-        requires path { IsPath path }
         requires named { IsBelowRoot path }
         ensures { IfOk result (λ v. v ≡ vector_of (length column.slots) ((path, column) ∷ [])) }
     {
+        see_path(&path);
         let count = column.len();
         let mut paths = Vec::with_capacity(alloc, 1)?;
         let mut columns = Vec::with_capacity(alloc, 1)?;
@@ -199,6 +199,22 @@ fn first_of_other_length(n: u32, attributes: &[(Path, Column)]) -> Option<u32>
         }
     }
     None
+}
+
+/// Each attribute is named by a path, as each `Path` is one.
+fn see_paths(attributes: &[(Path, Column)])
+    ensures { All (λ a. IsPath a.0) attributes.now }
+{
+    for attribute in attributes {
+        see_path(&attribute.0);
+    }
+}
+
+/// A `Path` is a path.
+fn see_path(path: &Path)
+    ensures { IsPath path.now }
+{
+    let _text = path.text();
 }
 
 /// Sorts attributes by path.
