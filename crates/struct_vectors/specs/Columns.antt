@@ -41,6 +41,12 @@ listed_form false true = narrow_with_empties
 listed_form true false = wide
 listed_form true true = wide_with_empties
 
+-- a form that keeps each number in 64 bits
+abbrev pub IsNarrow : KeptForm → Type 0
+IsNarrow narrow = ⊤
+IsNarrow narrow_with_empties = ⊤
+IsNarrow form = ⊥
+
 -- a form that is no control vector's
 abbrev pub IsNoControl : KeptForm → Type 0
 IsNoControl (symbolic c) = ⊥

@@ -1,8 +1,9 @@
 //! Columns of slots.
-ghost use Rattle.std.specs.Prelude.{◌≡◌, ◌≢◌, ◌^◌, ◌<◌, ◌≤◌, Some, length, map, slice_get, take, vec_len, IfOk, MatchOption};
+ghost use Rattle.std.specs.Prelude.{◌≡◌, ◌≢◌, ◌^◌, ◌<◌, ◌≤◌, false, Some, length, map, slice_get, take, vec_len, IfOk, MatchOption};
 ghost use Rattle.control_vectors.specs.Slots.{cells_of};
 ghost use Rattle.control_vectors.specs.Controls.{control_list};
-ghost use Rattle.struct_vectors.specs.Columns.{ColumnValue, some_slots, marked_slots, narrow, narrow_with_empties, wide, wide_with_empties, symbolic, IsNoControl};
+ghost use Rattle.struct_vectors.specs.Columns.{ColumnValue, some_slots, marked_slots, narrow, narrow_with_empties, wide, wide_with_empties, symbolic, IsNarrow, IsNoControl};
+ghost use Rattle.struct_vectors.specs.Makers.{MayKeep};
 
 use crate::NoMemory;
 use crate::forms::Form;
@@ -100,6 +101,7 @@ impl Column {
     pub fn get(&self, i: u32) -> Slot
         requires { i < length self.now.slots }
         ensures slot { slice_get self.now.slots i ≡ Some result }
+        ensures narrow { IsNarrow self.now.form → MayKeep false result }
         ensures bounded { length self.now.slots ≤ 2 ^ 22 }
     {
         self.form.slot(i)

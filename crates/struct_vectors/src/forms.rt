@@ -1,7 +1,8 @@
 //! How a column's slots are kept.
-ghost use Rattle.std.specs.Prelude.{◌≡◌, ◌<◌, ◌≤◌, Some, length, slice_get, take, vec_len, IfOk};
+ghost use Rattle.std.specs.Prelude.{◌≡◌, ◌<◌, ◌≤◌, false, Some, length, slice_get, take, vec_len, IfOk};
 ghost use Rattle.control_vectors.specs.Controls.{control_list};
-ghost use Rattle.struct_vectors.specs.Columns.{some_slots, marked_slot, marked_slots};
+ghost use Rattle.struct_vectors.specs.Columns.{IsNarrow, some_slots, marked_slot, marked_slots};
+ghost use Rattle.struct_vectors.specs.Makers.{MayKeep};
 ghost use Rattle.struct_vectors.specs.Forms.{value_of, IsWhole, IsCopyOf, IsFrontOf};
 
 use crate::NoMemory;
@@ -38,7 +39,8 @@ impl Form {
     pub fn slot(&self, i: u32) -> Slot
         requires whole { IsWhole self.now }
         requires within { i < length (value_of self.now).slots }
-        ensures { slice_get (value_of self.now).slots i ≡ Some result }
+        ensures slot { slice_get (value_of self.now).slots i ≡ Some result }
+        ensures narrow { IsNarrow (value_of self.now).form → MayKeep false result }
     {
         match self {
             Form::Narrow(numbers) => narrow_slot(numbers, i),
@@ -94,7 +96,8 @@ impl Form {
 /// The slot of a number.
 fn narrow_slot(numbers: &Vec<i64>, i: u32) -> Slot
     requires { i < length numbers.now.items }
-    ensures { slice_get (some_slots numbers.now.items) i ≡ Some result }
+    ensures slot { slice_get (some_slots numbers.now.items) i ≡ Some result }
+    ensures fits { MayKeep false result }
 {
     Some(i128::from(numbers[i as usize]))
 }
@@ -103,7 +106,8 @@ fn narrow_slot(numbers: &Vec<i64>, i: u32) -> Slot
 fn marked_narrow_slot(numbers: &Vec<i64>, marks: &Vec<bool>, i: u32) -> Slot
     requires lengths { length marks.now.items ≡ length numbers.now.items }
     requires within { i < length numbers.now.items }
-    ensures { slice_get (marked_slots numbers.now.items marks.now.items) i ≡ Some result }
+    ensures slot { slice_get (marked_slots numbers.now.items marks.now.items) i ≡ Some result }
+    ensures fits { MayKeep false result }
 {
     marked(i128::from(numbers[i as usize]), marks[i as usize])
 }
