@@ -33,13 +33,14 @@ pub enum Sign {
 /// An aggregate of an expression.
 #[derive(Clone, Copy)]
 pub enum AggregateKind {
+    Count,
     Sum,
     Min,
     Max,
     Avg,
 }
 
-/// Whether `NOT` stands before `BETWEEN` or `IN`.
+/// Whether `NOT` stands before `BETWEEN` or `IN`, or before the `NULL` of `IS NULL`.
 #[derive(Clone, Copy)]
 pub enum Polarity {
     Plain,
@@ -82,8 +83,8 @@ pub struct Expr {
 #[cycle(expression)]
 #[derive(Drop)]
 pub enum Form {
-    /// An integer of at most 2^127 - 1.
-    Number(u128),
+    /// A number without its point, at most 2^127 - 1, and how many of its digits stand after the point, at most 18: 0 for an integer.
+    Number(u128, u32),
     /// A text literal, with two quotes inside as one.
     Text(Name),
     /// A date with its intervals: the days from 1970-01-01.
@@ -102,6 +103,10 @@ pub enum Form {
     Between(Polarity, u32, Expr, Expr, Expr),
     /// The tested value, and those that it may be.
     In(Polarity, u32, Expr, Items<Expr>),
+    /// `IS NULL`, and with `NOT` its contrary.
+    IsNull(Polarity, u32, Expr),
+    /// `COALESCE`, which begins at the node's first byte: its first operand and at least one more.
+    Coalesce(Expr, Items<Expr>),
 }
 
 /// An expression of this form. It fails only for want of memory.
