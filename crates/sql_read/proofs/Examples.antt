@@ -12,5 +12,5 @@ use Rattle.sql_read.specs.SchemaText.{schema_of}
 use Rattle.sql_read.specs.Examples.{WorkedSchemas}
 
 pub worked_schemas : WorkedSchemas
-unfolding is_utf8 chars utf8_valid_len p.expect p.turns kinds.same_kind lexis.word_kind lexis.sign lexis.front words.reserved_words tokens.tokens s.width s.column_type s.constraint s.column s.key s.part s.next_part s.create s.next_table s.tables s.runs schema_of lib.Utf8.encode
-worked_schemas = (refl, refl, refl, refl, refl, refl, refl, refl, refl, refl, refl, refl, refl, refl, refl, refl, refl, refl)
+unfolding is_utf8 chars utf8_valid_len p.expect p.turns kinds.same_kind lexis.word_kind lexis.sign lexis.front words.reserved_words tokens.tokens s.width s.scale s.precision s.column_type s.constraint s.column s.key s.part s.next_part s.create s.next_table s.tables s.runs schema_of lib.Utf8.encode
+worked_schemas = (refl, refl, refl, refl, refl, refl, refl, refl, refl, refl, refl, refl, refl, refl, refl, refl, refl, refl, refl, refl, refl, refl, refl, refl, refl, refl, refl, refl, refl, refl)

@@ -36,7 +36,7 @@ of_kind f kind t h = ap f (is_true kind t h)
 
 some_word : (kind : Kind) → Some (word kind)
 unfolding same_kind
-some_word kind = let t : Token = record { kind = kind; at = 0; len = 0; value = 0 } in some_token (is kind) t (true_same the_type kind kind refl)
+some_word kind = let t : Token = record { kind = kind; at = 0; len = 0; value = 0; scale = 0 } in some_token (is kind) t (true_same the_type kind kind refl)
 
 good_word : (kind : Kind) (stop : Token → Bool) → Good (word kind) stop (expect kind)
 good_word kind stop = good_expect Unexpected (is kind) stop
@@ -52,31 +52,84 @@ after kind M q stop good some = good_after Unexpected (is kind) M q stop good so
 
 -- ---- types
 
-abbrev sized : Token → Phrase Token ColumnType
-sized n = word k.CloseParen >> nothing (g.typed kind.Text (g.capped n.value) n.at)
+-- the parenthesis that closes
+abbrev closing : ColumnType → Phrase Token ColumnType
+closing p = word k.CloseParen >> nothing p
 
-some_sized : (n : Token) → Some (sized n)
-some_sized n = some_map k.CloseParen (λ _. g.typed kind.Text (g.capped n.value) n.at)
+some_closing : (p : ColumnType) → Some (closing p)
+some_closing p = some_map k.CloseParen (λ _. p)
 
-some_width : Some g.width
-some_width = some_both (word k.OpenParen) _ (some_word k.OpenParen) (λ _. some_both (word k.Digits) sized (some_word k.Digits) some_sized)
+good_closing : (stop : Token → Bool) (p : ColumnType) → Good (closing p) stop (expect k.CloseParen >>= (λ _. pure p))
+good_closing stop p = word_map k.CloseParen (λ _. p) stop
 
-good_width : (stop : Token → Bool) → Good g.width stop r.width
+abbrev widths : Token → Phrase Token ColumnType
+widths t = Both (word k.Digits) (λ n. closing (g.sized kind.Text t n))
+
+some_widths : (t : Token) → Some (widths t)
+some_widths t = some_both (word k.Digits) _ (some_word k.Digits) (λ n. some_closing (g.sized kind.Text t n))
+
+some_width : (t : Token) → Some (g.width t)
+some_width t = some_both (word k.OpenParen) _ (some_word k.OpenParen) (λ _. some_widths t)
+
+good_width : (stop : Token → Bool) (t : Token) → Good (g.width t) stop (r.width t)
 unfolding r.width
-good_width stop = after k.OpenParen _ _ stop
-    (λ _. after k.Digits sized _ stop (λ n. word_map k.CloseParen (λ _. g.typed kind.Text (g.capped n.value) n.at) stop) some_sized)
-    (λ _. some_both (word k.Digits) sized (some_word k.Digits) some_sized)
+good_width stop t = after k.OpenParen _ _ stop
+    (λ _. after k.Digits (λ n. closing (g.sized kind.Text t n)) _ stop (λ n. good_closing stop (g.sized kind.Text t n)) (λ n. some_closing (g.sized kind.Text t n)))
+    (λ _. some_widths t)
 
-begins_width : (sel : Token → Bool) (c : Bool) → ((t : Token) → is k.OpenParen t ≡ true → sel t ≡ c) → (xs rest : List Token) (a : ColumnType) → g.width xs a → next sel (xs ++ rest) ≡ c
-begins_width sel c h = begins_token (is k.OpenParen) _ sel c h
+begins_width : (sel : Token → Bool) (c : Bool) → ((t : Token) → is k.OpenParen t ≡ true → sel t ≡ c) → (w : Token) (xs rest : List Token) (a : ColumnType) → g.width w xs a → next sel (xs ++ rest) ≡ c
+begins_width sel c h w = begins_token (is k.OpenParen) _ sel c h
+
+-- a comma and the scale behind it
+abbrev scaling : ColumnType → Phrase Token ColumnType
+scaling p = word k.Comma >> Both (word k.Digits) (λ n. nothing (g.scaled p n))
+
+good_scale : (p : ColumnType) → Good (g.scale p) (is k.Comma) (r.scale p)
+unfolding r.scale
+good_scale p = good_either (scaling p) (nothing p) _ (pure p) (is k.Comma) (is k.Comma)
+    (after k.Comma _ _ (is k.Comma) (λ _. word_map k.Digits (λ n. g.scaled p n) (is k.Comma)) (λ _. some_map k.Digits (λ n. g.scaled p n)))
+    (good_pure p (is k.Comma))
+    (begins_token (is k.Comma) _ (is k.Comma) true (λ t h. h))
+    (λ xs rest a l h. begins_nothing p (is k.Comma) false xs rest a l h)
+
+some_scale : (p : ColumnType) → Some (g.scale p)
+some_scale p = record { text = []; value = p; reads = inr (refl, refl) }
+
+-- the scale, and the parenthesis that closes
+abbrev scales : ColumnType → Phrase Token ColumnType
+scales p = Both (g.scale p) closing
+
+good_scales : (stop : Token → Bool) (p : ColumnType) → Good (scales p) stop (r.scale p >>= (λ q. expect k.CloseParen >>= (λ _. pure q)))
+unfolding same_kind
+good_scales stop p = good_bind (g.scale p) closing (r.scale p) _ (is k.Comma) stop (good_scale p) (good_closing stop)
+    (λ q ys rest b l h. begins_token (is k.CloseParen) _ (is k.Comma) false (λ t e. of_kind (λ x. same_kind x k.Comma) k.CloseParen t e) ys rest b l)
+    some_closing
+
+some_scales : (p : ColumnType) → Some (scales p)
+some_scales p = some_both (g.scale p) closing (some_scale p) some_closing
+
+abbrev precisions : Token → Phrase Token ColumnType
+precisions t = Both (word k.Digits) (λ n. scales (g.sized kind.Decimal t n))
+
+some_precisions : (t : Token) → Some (precisions t)
+some_precisions t = some_both (word k.Digits) _ (some_word k.Digits) (λ n. some_scales (g.sized kind.Decimal t n))
+
+some_precision : (t : Token) → Some (g.precision t)
+some_precision t = some_both (word k.OpenParen) _ (some_word k.OpenParen) (λ _. some_precisions t)
+
+good_precision : (stop : Token → Bool) (t : Token) → Good (g.precision t) stop (r.precision t)
+unfolding r.precision
+good_precision stop t = after k.OpenParen _ _ stop
+    (λ _. after k.Digits (λ n. scales (g.sized kind.Decimal t n)) _ stop (λ n. good_scales stop (g.sized kind.Decimal t n)) (λ n. some_scales (g.sized kind.Decimal t n)))
+    (λ _. some_precisions t)
 
 -- the width of CHAR, which may be left out
 abbrev char_width : Token → Phrase Token ColumnType
-char_width t = g.width <|> nothing (g.typed kind.Text 1 t.at)
+char_width t = g.width t <|> nothing (g.typed kind.Text 1 t.at)
 
-good_char_width : (t : Token) → Good (char_width t) (is k.OpenParen) (either (is k.OpenParen) r.width (pure (g.typed kind.Text 1 t.at)))
-good_char_width t = good_either g.width (nothing (g.typed kind.Text 1 t.at)) r.width (pure (g.typed kind.Text 1 t.at)) (is k.OpenParen) (is k.OpenParen) (good_width (is k.OpenParen)) (good_pure (g.typed kind.Text 1 t.at) (is k.OpenParen))
-    (begins_width (is k.OpenParen) true (λ t h. h))
+good_char_width : (t : Token) → Good (char_width t) (is k.OpenParen) (either (is k.OpenParen) (r.width t) (pure (g.typed kind.Text 1 t.at)))
+good_char_width t = good_either (g.width t) (nothing (g.typed kind.Text 1 t.at)) (r.width t) (pure (g.typed kind.Text 1 t.at)) (is k.OpenParen) (is k.OpenParen) (good_width (is k.OpenParen) t) (good_pure (g.typed kind.Text 1 t.at) (is k.OpenParen))
+    (begins_width (is k.OpenParen) true (λ t h. h) t)
     (λ xs rest a l h. begins_nothing (g.typed kind.Text 1 t.at) (is k.OpenParen) false xs rest a l h)
 
 some_char_width : (t : Token) → Some (char_width t)
@@ -88,19 +141,25 @@ integers = Both (token is_integer_type) (λ t. nothing (g.typed kind.Integer 0 t
 abbrev dates : Phrase Token ColumnType
 dates = Both (word k.Date) (λ t. nothing (g.typed kind.Date 0 t.at))
 
+abbrev decimals : Phrase Token ColumnType
+decimals = Both (word k.Decimal) g.precision
+
 abbrev varchars : Phrase Token ColumnType
-varchars = word k.Varchar >> g.width
+varchars = Both (word k.Varchar) g.width
 
 abbrev chars : Phrase Token ColumnType
 chars = Both (word k.Char) char_width
 
-good_varchars : Good varchars (is k.OpenParen) (expect k.Varchar >>= (λ _. r.width))
-good_varchars = after k.Varchar (λ _. g.width) (λ _. r.width) (is k.OpenParen) (λ _. good_width (is k.OpenParen)) (λ _. some_width)
+good_decimals : Good decimals (is k.OpenParen) (expect k.Decimal >>= r.precision)
+good_decimals = after k.Decimal g.precision r.precision (is k.OpenParen) (good_precision (is k.OpenParen)) some_precision
 
-good_chars : Good chars (is k.OpenParen) (expect k.Char >>= (λ t. either (is k.OpenParen) r.width (pure (g.typed kind.Text 1 t.at))))
+good_varchars : Good varchars (is k.OpenParen) (expect k.Varchar >>= r.width)
+good_varchars = after k.Varchar g.width r.width (is k.OpenParen) (good_width (is k.OpenParen)) some_width
+
+good_chars : Good chars (is k.OpenParen) (expect k.Char >>= (λ t. either (is k.OpenParen) (r.width t) (pure (g.typed kind.Text 1 t.at))))
 good_chars = after k.Char char_width _ (is k.OpenParen) good_char_width some_char_width
 
-good_texts : Good (varchars <|> chars) (is k.OpenParen) (either (is k.Varchar) (expect k.Varchar >>= (λ _. r.width)) (expect k.Char >>= (λ t. either (is k.OpenParen) r.width (pure (g.typed kind.Text 1 t.at)))))
+good_texts : Good (varchars <|> chars) (is k.OpenParen) (either (is k.Varchar) (expect k.Varchar >>= r.width) (expect k.Char >>= (λ t. either (is k.OpenParen) (r.width t) (pure (g.typed kind.Text 1 t.at)))))
 unfolding same_kind
 good_texts = good_either varchars chars _ _ (is k.Varchar) (is k.OpenParen) good_varchars good_chars
     (begins_token (is k.Varchar) _ (is k.Varchar) true (λ t h. h))
@@ -113,19 +172,35 @@ begins_texts f v c xs rest a l = ⊎_elim
     (begins_token (is k.Char) char_width (λ t. f t.kind) false (λ t e. of_kind f k.Char t e ∙ c) xs rest a)
     l
 
+-- types with a number in parentheses
+abbrev lengths : Phrase Token ColumnType
+lengths = decimals <|> (varchars <|> chars)
+
+good_lengths : Good lengths (is k.OpenParen) (either (is k.Decimal) (expect k.Decimal >>= r.precision) (either (is k.Varchar) (expect k.Varchar >>= r.width) (expect k.Char >>= (λ t. either (is k.OpenParen) (r.width t) (pure (g.typed kind.Text 1 t.at))))))
+unfolding same_kind
+good_lengths = good_either decimals (varchars <|> chars) _ _ (is k.Decimal) (is k.OpenParen) good_decimals good_texts
+    (begins_token (is k.Decimal) _ (is k.Decimal) true (λ t h. h))
+    (λ xs rest a l h. begins_texts (λ x. same_kind x k.Decimal) refl refl xs rest a l)
+
+begins_lengths : (f : Kind → Bool) → f k.Decimal ≡ false → f k.Varchar ≡ false → f k.Char ≡ false → (xs rest : List Token) (a : ColumnType) → lengths xs a → next (λ t. f t.kind) (xs ++ rest) ≡ false
+begins_lengths f d v c xs rest a l = ⊎_elim
+    (begins_token (is k.Decimal) _ (λ t. f t.kind) false (λ t e. of_kind f k.Decimal t e ∙ d) xs rest a)
+    (begins_texts f v c xs rest a)
+    l
+
 good_column_type : Good g.column_type (is k.OpenParen) r.column_type
 unfolding r.column_type same_kind
-good_column_type = good_either integers (dates <|> (varchars <|> chars)) _ _ is_integer_type (is k.OpenParen)
+good_column_type = good_either integers (dates <|> lengths) _ _ is_integer_type (is k.OpenParen)
     (good_map (token is_integer_type) (p.expect Unexpected is_integer_type) (is k.OpenParen) (good_expect Unexpected is_integer_type (is k.OpenParen)) (λ t. g.typed kind.Integer 0 t.at))
-    (good_either dates (varchars <|> chars) _ _ (is k.Date) (is k.OpenParen)
+    (good_either dates lengths _ _ (is k.Date) (is k.OpenParen)
     (word_map k.Date (λ t. g.typed kind.Date 0 t.at) (is k.OpenParen))
-    good_texts
+    good_lengths
     (begins_token (is k.Date) _ (is k.Date) true (λ t h. h))
-    (λ xs rest a l h. begins_texts (λ x. same_kind x k.Date) refl refl xs rest a l))
+    (λ xs rest a l h. begins_lengths (λ x. same_kind x k.Date) refl refl refl xs rest a l))
     (begins_token is_integer_type _ is_integer_type true (λ t h. h))
     (λ xs rest a l h. ⊎_elim
     (begins_token (is k.Date) _ is_integer_type false (λ t e. of_kind g.names_integers k.Date t e) xs rest a)
-    (begins_texts g.names_integers refl refl xs rest a)
+    (begins_lengths g.names_integers refl refl refl xs rest a)
     l)
 
 some_column_type : Some g.column_type

@@ -9,3 +9,4 @@ mod Fronts
 pub mod NameLaws
 pub mod FormLaws
 pub mod LiteralLaws
+pub mod NumberLaws

@@ -17,7 +17,7 @@ use Rattle.sql_read.specs.Lexis as lexis
 use Rattle.sql_read.specs.Lexis.{Bytes, front, is_in, run_len, word, plain, closing, lookup, word_kind}
 use Rattle.sql_read.specs.Literals.{IsClosed, IsLiteralAt}
 use Rattle.sql_read.specs.Tokens.{Tokens, token_of, tokens_from, unless_blank, past_kind, limited, tokens}
-use Rattle.sql_read.proofs.Fronts.{is_sign, of_front}
+use Rattle.sql_read.proofs.Fronts.{is_sign, is_numeral, of_front}
 
 -- ---- where a literal closes
 
@@ -77,9 +77,12 @@ long_or_word : (c : Bool) (w : Bytes) → is_quoted (if c then k.BadToken else w
 long_or_word true w = refl
 long_or_word false w = word_other w
 
-valued_other : (z : Bytes) (len : ℕ) (value : Option ℕ) → IsClosedIfQuoted z (lexis.valued len value)
-valued_other z len None = λ e. absurd (cc)
-valued_other z len (Some n) = λ e. absurd (cc)
+numeral_other : (kind : Kind) → is_numeral kind ≡ true → is_quoted kind ≡ false
+numeral_other k.Quoted h = absurd (cc)
+numeral_other kind h = refl
+
+no_number : (z : Bytes) (kind : Kind) (len n scale : ℕ) → is_numeral kind ≡ true → IsClosedIfQuoted z (record { kind = kind; len = len; value = n; scale = scale })
+no_number z kind len n scale h e = let same : true ≡ false = ap is_quoted (sym e) ∙ numeral_other kind h in absurd (true≢false same)
 
 quoted_closed : (z : Bytes) (end : Option ℕ) → closing false 1 (drop 1 z) ≡ end → slice_index z 0 ≡ 39 → IsClosedIfQuoted z (lexis.closed (length z) end)
 quoted_closed z None e q = λ is. absurd (cc)
@@ -98,7 +101,7 @@ sign_other kind h = refl
 front_closed : (z : Bytes) → IsClosedIfQuoted z (front z)
 front_closed z =
     let len = run_len class.Word z in
-    of_front (IsClosedIfQuoted z) z (λ _. no z _ len (long_or_word (nat_lt 64 len) (take len z))) (valued_other z) (quoted_closed z (closing false 1 (drop 1 z)) refl)
+    of_front (IsClosedIfQuoted z) z (λ _. no z _ len (long_or_word (nat_lt 64 len) (take len z))) (λ kind len n scale h _ _. no_number z kind len n scale h) (quoted_closed z (closing false 1 (drop 1 z)) refl)
     (λ kind len s. no z kind len (sign_other kind s))
 
 -- ---- the tokens of a text

@@ -17,7 +17,7 @@ use Rattle.sql_read.specs.Lexis as lexis
 use Rattle.sql_read.specs.Lexis.{Bytes, front, is_in, run_len, word, plain}
 use Rattle.sql_read.specs.Schema.{name_at}
 use Rattle.sql_read.specs.Tokens.{Tokens, token_of, tokens_from, unless_blank, past_kind, limited, tokens}
-use Rattle.sql_read.proofs.Fronts.{is_sign, of_front}
+use Rattle.sql_read.proofs.Fronts.{is_sign, is_numeral, of_front}
 
 -- ---- the front of a text: where it is a name, it is a word
 
@@ -31,9 +31,12 @@ is_name_kind kind = false
 no : (z : Bytes) (kind : Kind) (len : ℕ) → is_name_kind kind ≡ false → IsWordIfNamed z (plain kind len)
 no z kind len other e = let same : true ≡ false = ap is_name_kind (sym e) ∙ other in absurd (true≢false same)
 
-valued_other : (z : Bytes) (len : ℕ) (value : Option ℕ) → IsWordIfNamed z (lexis.valued len value)
-valued_other z len None = λ e. absurd (cc)
-valued_other z len (Some n) = λ e. absurd (cc)
+numeral_other : (kind : Kind) → is_numeral kind ≡ true → is_name_kind kind ≡ false
+numeral_other k.Name h = absurd (cc)
+numeral_other kind h = refl
+
+no_number : (z : Bytes) (kind : Kind) (len n scale : ℕ) → is_numeral kind ≡ true → IsWordIfNamed z (record { kind = kind; len = len; value = n; scale = scale })
+no_number z kind len n scale h e = let same : true ≡ false = ap is_name_kind (sym e) ∙ numeral_other kind h in absurd (true≢false same)
 
 closed_other : (z : Bytes) (len : ℕ) (end : Option ℕ) → IsWordIfNamed z (lexis.closed len end)
 closed_other z len None = λ e. absurd (cc)
@@ -45,7 +48,7 @@ sign_other kind h = refl
 
 front_word : (z : Bytes) → IsWordIfNamed z (front z)
 front_word z =
-    of_front (IsWordIfNamed z) z (λ letter _. (refl, letter)) (valued_other z) (λ _. closed_other z (length z) (lexis.closing false 1 (drop 1 z)))
+    of_front (IsWordIfNamed z) z (λ letter _. (refl, letter)) (λ kind len n scale h _ _. no_number z kind len n scale h) (λ _. closed_other z (length z) (lexis.closing false 1 (drop 1 z)))
     (λ kind len s. no z kind len (sign_other kind s))
 
 -- ---- a word's bytes, in lower case

@@ -8,6 +8,7 @@ use Rattle.phrases.proofs.Inside.{MadeOf, made_token, made_nothing, made_both, m
 use Rattle.sql_read.specs.declared.kind.Kind.{Kind}
 use Rattle.sql_read.specs.declared.kind.Kind.TheVariants as k
 use Rattle.sql_read.specs.declared.token_list.Token.{Token}
+use Rattle.sql_read.specs.declared.schema.ColumnType.{ColumnType}
 use Rattle.sql_read.specs.declared.schema.Draft.{Draft}
 use Rattle.sql_read.specs.declared.schema.Parts.{Parts}
 use Rattle.sql_read.specs.Lexis.{Bytes}
@@ -28,15 +29,22 @@ integers_sound k.Int h = refl
 integers_sound k.Bigint h = refl
 integers_sound x h = absurd (cc)
 
-made_width : MadeOf is_sound g.width
-made_width = made_both is_sound _ _ (made_word k.OpenParen refl) (λ _. made_both is_sound _ _ (made_word k.Digits refl) (λ n. made_both is_sound _ _ (made_word k.CloseParen refl) (λ _. made_nothing is_sound _)))
+made_width : (t : Token) → MadeOf is_sound (g.width t)
+made_width t = made_both is_sound _ _ (made_word k.OpenParen refl) (λ _. made_both is_sound _ _ (made_word k.Digits refl) (λ n. made_both is_sound _ _ (made_word k.CloseParen refl) (λ _. made_nothing is_sound _)))
+
+made_scale : (p : ColumnType) → MadeOf is_sound (g.scale p)
+made_scale p = made_either is_sound _ _ (made_both is_sound _ _ (made_word k.Comma refl) (λ _. made_both is_sound _ _ (made_word k.Digits refl) (λ n. made_nothing is_sound _))) (made_nothing is_sound _)
+
+made_precision : (t : Token) → MadeOf is_sound (g.precision t)
+made_precision t = made_both is_sound _ _ (made_word k.OpenParen refl) (λ _. made_both is_sound _ _ (made_word k.Digits refl) (λ n. made_both is_sound _ _ (made_scale _) (λ p. made_both is_sound _ _ (made_word k.CloseParen refl) (λ _. made_nothing is_sound _))))
 
 made_column_type : MadeOf is_sound g.column_type
 made_column_type = made_either is_sound _ _
     (made_both is_sound _ _ (made_token is_sound g.is_integer_type (λ t h. integers_sound t.kind h)) (λ t. made_nothing is_sound _))
     (made_either is_sound _ _ (made_both is_sound _ _ (made_word k.Date refl) (λ t. made_nothing is_sound _))
-    (made_either is_sound _ _ (made_both is_sound _ _ (made_word k.Varchar refl) (λ _. made_width))
-    (made_both is_sound _ _ (made_word k.Char refl) (λ t. made_either is_sound _ _ made_width (made_nothing is_sound _)))))
+    (made_either is_sound _ _ (made_both is_sound _ _ (made_word k.Decimal refl) made_precision)
+    (made_either is_sound _ _ (made_both is_sound _ _ (made_word k.Varchar refl) made_width)
+    (made_both is_sound _ _ (made_word k.Char refl) (λ t. made_either is_sound _ _ (made_width t) (made_nothing is_sound _))))))
 
 made_constraint : (d : Draft) → MadeOf is_sound (g.constraint d)
 made_constraint d = made_either is_sound _ _

@@ -1,6 +1,6 @@
 -- What stands at the front of an SQL text: a token, blanks or a comment. The longest is taken.
 -- After SQL-92 (ISO/IEC 9075:1992), 5.2 <token> and <separator>, with words of ASCII letters, digits and underscores.
-use Rattle.std.specs.Prelude.{◌≤◌, ◌≡◌, ℕ, ◌+◌, ◌-◌, ◌*◌, Bool, true, false, not, ◌&&◌, ◌||◌, if◌then◌else◌, ◌==◌, nat_le, nat_lt, List, [], ◌∷◌, length, take, drop, fold, slice_index, Option, Some, None}
+use Rattle.std.specs.Prelude.{◌≤◌, ◌≡◌, ℕ, ◌+◌, ◌-◌, ◌*◌, Bool, true, false, not, ◌&&◌, ◌||◌, if◌then◌else◌, ◌==◌, nat_le, nat_lt, List, [], ◌∷◌, ◌++◌, length, take, drop, fold, slice_index, Option, Some, None}
 use Rattle.std.specs.Char.{is_ascii_digit, is_ascii_alphanumeric, is_ascii_alphabetic}
 use Rattle.std.specs.List.{prefix_len}
 use Rattle.std.specs.Str.{str_eq_ignore_ascii_case}
@@ -35,29 +35,57 @@ word_kind = lookup reserved_words
 
 -- a piece without a value
 abbrev pub plain : Kind → ℕ → Piece
-plain kind len = record { kind = kind; len = len; value = 0 }
+plain kind len = record { kind = kind; len = len; value = 0; scale = 0 }
 
 -- a word of more than 64 bytes is none
 abbrev pub word : Bytes → Piece
 word z = let len = run_len class.Word z in plain (if nat_lt 64 len then k.BadToken else word_kind (take len z)) len
 
+-- the value of a number's digits with these behind it
+abbrev pub digits_after : ℕ → Bytes → ℕ
+digits_after start digits = fold (λ n b. 10 * n + (b - 48)) start digits
+
 -- the value of decimal digits
 abbrev pub decimal : Bytes → ℕ
-decimal digits = fold (λ n b. 10 * n + (b - 48)) 0 digits
+decimal digits = digits_after 0 digits
 
 -- 2^127 - 1
 abbrev pub max_integer : ℕ
 max_integer = 170141183460469231731687303715884105727
 
+abbrev pub if_within : ℕ → Option ℕ
+if_within n = if nat_le n max_integer then Some n else None
+
+abbrev pub continued : ℕ → Bytes → Option ℕ
+continued start digits = if_within (digits_after start digits)
+
 abbrev pub integer_within : Bytes → Option ℕ
-integer_within digits = if nat_le (decimal digits) max_integer then Some (decimal digits) else None
+integer_within digits = if_within (decimal digits)
 
-abbrev pub valued : ℕ → Option ℕ → Piece
-valued len None = plain k.TooWide len
-valued len (Some n) = record { kind = k.Digits; len = len; value = n }
+-- a number of this scale, where it is no greater than a number may be
+abbrev pub valued : Kind → ℕ → ℕ → Option ℕ → Piece
+valued kind len scale None = plain k.TooWide len
+valued kind len scale (Some n) = record { kind = kind; len = len; value = n; scale = scale }
 
-abbrev pub integer : Bytes → Piece
-integer z = let len = run_len class.Digit z in valued len (integer_within (take len z))
+-- how many digits may stand after a point
+abbrev pub max_scale : ℕ
+max_scale = 18
+
+-- a number with a point behind so many digits: its value is that of all its digits, without the point
+abbrev pub fraction : ℕ → Bytes → Piece
+fraction whole z =
+    let rest = drop (whole + 1) z in
+    let scale = run_len class.Digit rest in
+    let len = whole + 1 + scale in
+    if nat_lt max_scale scale then plain k.TooWide len else valued k.Fraction len scale (integer_within (take whole z ++ take scale rest))
+
+-- behind so many digits a point and a digit
+abbrev pub has_fraction : ℕ → Bytes → Bool
+has_fraction whole z = slice_index z whole == 46 && is_ascii_digit (slice_index z (whole + 1))
+
+-- digits, or digits with a point between them
+abbrev pub number : Bytes → Piece
+number z = let whole = run_len class.Digit z in if has_fraction whole z then fraction whole z else valued k.Digits whole 0 (integer_within (take whole z))
 
 -- The length of a text literal after its first quote, with the quote that closes it. Two quotes in a row are one quote of the text.
 -- The flag says that the quote before is the first of two.
@@ -95,6 +123,6 @@ front z =
     if is_in class.Blank b then plain k.Blank (1 + run_len class.Blank (drop 1 z))
     else (if b == 45 && slice_index z 1 == 45 then plain k.Blank (1 + run_len class.Line (drop 1 z))
     else (if is_ascii_alphabetic b then word z
-    else (if is_ascii_digit b then integer z
+    else (if is_ascii_digit b then number z
     else (if b == 39 then quoted z
     else sign b (slice_index z 1)))))

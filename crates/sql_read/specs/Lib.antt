@@ -8,3 +8,4 @@ pub mod Forms
 pub mod Reserved
 pub mod Examples
 pub mod Literals
+pub mod Numbers

@@ -7,7 +7,7 @@ use Rattle.sql_read.specs.declared.kind.Kind.{Kind}
 use Rattle.sql_read.specs.declared.kind.Kind.TheVariants as k
 use Rattle.sql_read.specs.declared.token_list.Token.{Token}
 use Rattle.sql_read.specs.declared.definition.ColumnKind.{ColumnKind}
-use Rattle.sql_read.specs.declared.definition.ColumnKind.TheVariants.{Integer, Date, Text}
+use Rattle.sql_read.specs.declared.definition.ColumnKind.TheVariants.{Integer, Date, Text, Decimal}
 use Rattle.sql_read.specs.declared.definition.KeyDef.{KeyDef}
 use Rattle.sql_read.specs.declared.definition.TableDef.{TableDef}
 use Rattle.sql_read.specs.declared.schema.ColumnType.{ColumnType}
@@ -45,29 +45,51 @@ is_integer_type t = names_integers t.kind
 abbrev pub capped : ℕ → ℕ
 capped n = if nat_lt 4294967295 n then 4294967295 else n
 
+-- a type that is a word alone
 abbrev pub typed : ColumnKind → ℕ → ℕ → ColumnType
-typed kind width at = record { kind = kind; width = width; width_at = at }
+typed kind width at = record { kind = kind; width = width; width_at = at; scale = 0; scale_at = at }
+
+-- the type of this word with this number in parentheses
+abbrev pub sized : ColumnKind → Token → Token → ColumnType
+sized kind t n = record { kind = kind; width = capped n.value; width_at = n.at; scale = 0; scale_at = t.at }
+
+abbrev pub scaled : ColumnType → Token → ColumnType
+scaled p n = record p { scale = capped n.value; scale_at = n.at }
 
 -- "(" integer ")"
-abbrev pub width : Phrase Token ColumnType
-width = do
+abbrev pub width : Token → Phrase Token ColumnType
+width t = do
   word k.OpenParen
   n ← word k.Digits
   word k.CloseParen
-  nothing (typed Text (capped n.value) n.at)
+  nothing (sized Text t n)
 
--- type = INTEGER | INT | BIGINT | DATE | VARCHAR "(" integer ")" | CHAR ["(" integer ")"]
+-- ["," integer]
+abbrev pub scale : ColumnType → Phrase Token ColumnType
+scale p = (do word k.Comma; n ← word k.Digits; nothing (scaled p n)) <|> nothing p
+
+-- "(" integer ["," integer] ")"
+abbrev pub precision : Token → Phrase Token ColumnType
+precision t = do
+  word k.OpenParen
+  n ← word k.Digits
+  p ← scale (sized Decimal t n)
+  word k.CloseParen
+  nothing p
+
+-- type = INTEGER | INT | BIGINT | DATE | DECIMAL "(" integer ["," integer] ")" | VARCHAR "(" integer ")" | CHAR ["(" integer ")"]
 abbrev pub column_type : Phrase Token ColumnType
 column_type =
     (do t ← token is_integer_type; nothing (typed Integer 0 t.at))
     <|> ((do t ← word k.Date; nothing (typed Date 0 t.at))
-    <|> ((word k.Varchar >> width)
-    <|> (do t ← word k.Char; width <|> nothing (typed Text 1 t.at))))
+    <|> ((do t ← word k.Decimal; precision t)
+    <|> ((do t ← word k.Varchar; width t)
+    <|> (do t ← word k.Char; width t <|> nothing (typed Text 1 t.at)))))
 
 -- a column so far, and the keys so far
 abbrev pub begun : Bytes → Token → ColumnType → List KeyDef → Draft
 begun text n t keys = record {
-  column = record { name = name_at text n; at = n.at; kind = t.kind; width = t.width; width_at = t.width_at; not_null = false };
+  column = record { name = name_at text n; at = n.at; kind = t.kind; width = t.width; width_at = t.width_at; scale = t.scale; scale_at = t.scale_at; not_null = false };
   keys = keys;
 }
 

@@ -7,14 +7,14 @@ use Rattle.sql_read.specs.declared.kind.Kind.TheVariants as k
 use Rattle.sql_read.specs.declared.token_list.Token.{Token}
 use Rattle.sql_read.specs.declared.fault.Fault.{Fault}
 use Rattle.sql_read.specs.declared.fault.Fault.TheVariants.{Unexpected}
-use Rattle.sql_read.specs.declared.definition.ColumnKind.TheVariants.{Integer, Date, Text}
+use Rattle.sql_read.specs.declared.definition.ColumnKind.TheVariants.{Integer, Date, Text, Decimal}
 use Rattle.sql_read.specs.declared.definition.TableDef.{TableDef}
 use Rattle.sql_read.specs.declared.schema.ColumnType.{ColumnType}
 use Rattle.sql_read.specs.declared.schema.Draft.{Draft}
 use Rattle.sql_read.specs.declared.schema.Parts.{Parts}
 use Rattle.sql_read.specs.declared.schema.Run.{Run}
 use Rattle.sql_read.specs.Lexis.{Bytes}
-use Rattle.sql_read.specs.Schema.{is, is_integer_type, capped, typed, begun, marked_not_null, marked_key, with_column, with_key, no_parts, table}
+use Rattle.sql_read.specs.Schema.{is, is_integer_type, typed, sized, scaled, begun, marked_not_null, marked_key, with_column, with_key, no_parts, table}
 
 abbrev pub Parser : Type 0 → Type 0
 Parser A = p.Parser Token Fault A
@@ -22,19 +22,31 @@ Parser A = p.Parser Token Fault A
 abbrev pub expect : Kind → Parser Token
 expect kind = p.expect Unexpected (is kind)
 
-unfoldable pub width : Parser ColumnType
-width = do
+unfoldable pub width : Token → Parser ColumnType
+width t = do
   expect k.OpenParen
   n ← expect k.Digits
   expect k.CloseParen
-  pure (typed Text (capped n.value) n.at)
+  pure (sized Text t n)
+
+unfoldable pub scale : ColumnType → Parser ColumnType
+scale p = either (is k.Comma) (do expect k.Comma; n ← expect k.Digits; pure (scaled p n)) (pure p)
+
+unfoldable pub precision : Token → Parser ColumnType
+precision t = do
+  expect k.OpenParen
+  n ← expect k.Digits
+  p ← scale (sized Decimal t n)
+  expect k.CloseParen
+  pure p
 
 unfoldable pub column_type : Parser ColumnType
 column_type =
     either is_integer_type (do t ← p.expect Unexpected is_integer_type; pure (typed Integer 0 t.at))
     (either (is k.Date) (do t ← expect k.Date; pure (typed Date 0 t.at))
-    (either (is k.Varchar) (expect k.Varchar >> width)
-    (do t ← expect k.Char; either (is k.OpenParen) width (pure (typed Text 1 t.at)))))
+    (either (is k.Decimal) (do t ← expect k.Decimal; precision t)
+    (either (is k.Varchar) (do t ← expect k.Varchar; width t)
+    (do t ← expect k.Char; either (is k.OpenParen) (width t) (pure (typed Text 1 t.at))))))
 
 abbrev pub begins_constraint : Token → Bool
 begins_constraint t = is k.Not t || is k.Primary t

@@ -16,7 +16,7 @@ unless_blank kind t = Some t
 
 -- a piece at its place; blanks and comments are no tokens
 abbrev pub token_of : ℕ → Piece → Option Token
-token_of at p = unless_blank p.kind (record { kind = p.kind; at = at; len = p.len; value = p.value })
+token_of at p = unless_blank p.kind (record { kind = p.kind; at = at; len = p.len; value = p.value; scale = p.scale })
 
 -- The tokens from a place on. The first number counts the bytes that are left of the piece before.
 abbrev pub tokens_from : ℕ → ℕ → Bytes → Tokens

@@ -12,6 +12,8 @@ pub enum ColumnKind {
     Date,
     /// `CHAR` or `VARCHAR`.
     Text,
+    /// `DECIMAL`: numbers with a fixed number of digits after the point.
+    Decimal,
 }
 
 /// A column as it is written. Places are bytes of the text, counted from 0.
@@ -22,10 +24,14 @@ pub struct ColumnDef {
     /// The name's first byte.
     pub at: u32,
     pub kind: ColumnKind,
-    /// The width of a text in bytes, 2^32 - 1 for every greater number; 1 for a bare `CHAR`, 0 for what is no text.
+    /// The width of a text in bytes, or the precision of a decimal in digits, 2^32 - 1 for every greater number; 1 for a bare `CHAR`, 0 for every other kind.
     pub width: u32,
     /// The width's first byte; that of the type's word where no width is written.
     pub width_at: u32,
+    /// How many of a decimal's digits stand after the point, 2^32 - 1 for every greater number; 0 where no scale is written.
+    pub scale: u32,
+    /// The scale's first byte; that of the type's word where no scale is written.
+    pub scale_at: u32,
     /// Whether `NOT NULL` is written.
     pub not_null: bool,
 }

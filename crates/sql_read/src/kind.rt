@@ -13,13 +13,15 @@ pub enum Kind {
     Blank,
     /// A character that begins no token, a word of more than 64 bytes, or a text literal that is not closed.
     BadToken,
-    /// An integer above 2^127 - 1.
+    /// A number whose digits make more than 2^127 - 1, or with more than 18 digits after its point.
     TooWide,
     /// The token after the last that a text may have.
     Past,
     Name,
     /// An integer of at most 2^127 - 1.
     Digits,
+    /// A number with a point: digits of at most 2^127 - 1 together, 1 to 18 of them after the point.
+    Fraction,
     /// A text literal.
     Quoted,
     And,

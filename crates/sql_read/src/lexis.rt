@@ -1,16 +1,17 @@
 //! What stands at the front of a text: a token, blanks or a comment.
 
-ghost use Rattle.std.specs.Prelude.{◌≡◌, ◌≢◌, ◌<◌, ◌≤◌, ◌+◌, ◌-◌, ◌^◌, length, slice_index, if◌then◌else◌, nat_lt, nat_le, IfSome, Some, None, true, false};
+ghost use Rattle.std.specs.Prelude.{◌≡◌, ◌≢◌, ◌<◌, ◌≤◌, ◌+◌, ◌-◌, ◌^◌, ◌++◌, length, slice_index, if◌then◌else◌, nat_lt, nat_le, IfSome, Some, None, true, false};
 ghost use Rattle.sql_read.specs.Lexis as spec;
 
 use crate::kind::{Kind, word_kind};
 
-/// A kind, a length in bytes, and the value of an integer (0 for every other kind).
+/// A kind, a length in bytes, and the value and the scale of a number (0 for every other kind).
 #[derive(Clone, Copy)]
 pub struct Piece {
     pub kind: Kind,
     pub len: usize,
     pub value: u128,
+    pub scale: u32,
 }
 
 /// Bytes that stand in a row.
@@ -55,6 +56,7 @@ fn plain(kind: Kind, len: usize) -> Piece
         kind,
         len,
         value: 0,
+        scale: 0,
     }
 }
 
@@ -72,11 +74,14 @@ fn word(z: &[u8]) -> Piece
 
 const MAX_INTEGER: u128 = 0x7fff_ffff_ffff_ffff_ffff_ffff_ffff_ffff;
 
-/// The digits' value, if it is at most 2^127 - 1.
-pub fn integer_within(mut z: &[u8]) -> Option<u128>
-    ensures { result ≡ spec.integer_within z.entry.now }
+/// The greatest number of digits after a point.
+const MAX_SCALE: usize = 18;
+
+/// The value of a number's digits with these behind it, if it is at most 2^127 - 1.
+fn continued(start: u128, mut z: &[u8]) -> Option<u128>
+    ensures { result ≡ spec.continued start z.entry.now }
 {
-    let mut value: u128 = 0;
+    let mut value = start;
     while let [b, rest @ ..] = z {
         if value > MAX_INTEGER / 10 {
             return None;
@@ -91,18 +96,67 @@ pub fn integer_within(mut z: &[u8]) -> Option<u128>
     }
 }
 
-fn integer(z: &[u8]) -> Piece
-    ensures value { result ≡ spec.integer z.now }
-    ensures within { result.len ≤ length z.now }
+/// The digits' value, if it is at most 2^127 - 1.
+pub fn integer_within(z: &[u8]) -> Option<u128>
+    ensures { result ≡ spec.integer_within z.now }
 {
-    let len = run_len(Class::Digit, z);
-    match integer_within(&z[..len]) {
+    continued(0, z)
+}
+
+/// The value of two runs of digits in a row, if it is at most 2^127 - 1.
+fn joined_within(whole: &[u8], part: &[u8]) -> Option<u128>
+    ensures { result ≡ spec.integer_within (whole.now ++ part.now) }
+{
+    match integer_within(whole) {
+        None => None,
+        Some(value) => continued(value, part),
+    }
+}
+
+fn valued(kind: Kind, len: usize, scale: u32, value: Option<u128>) -> Piece
+    ensures { result ≡ spec.valued kind len scale value }
+{
+    match value {
         None => plain(Kind::TooWide, len),
         Some(value) => Piece {
-            kind: Kind::Digits,
+            kind,
             len,
             value,
+            scale,
         },
+    }
+}
+
+/// A number whose point stands behind so many digits.
+fn fraction(whole: usize, z: &[u8]) -> Piece
+    requires { whole < length z.now }
+    ensures value { result ≡ spec.fraction whole z.now }
+    ensures within { result.len ≤ length z.now }
+{
+    let rest = &z[whole + 1..];
+    let scale = run_len(Class::Digit, rest);
+    let len = whole + 1 + scale;
+    if scale > MAX_SCALE {
+        plain(Kind::TooWide, len)
+    } else {
+        valued(
+            Kind::Fraction,
+            len,
+            scale as u32,
+            joined_within(&z[..whole], &rest[..scale]),
+        )
+    }
+}
+
+fn number(z: &[u8]) -> Piece
+    ensures value { result ≡ spec.number z.now }
+    ensures within { result.len ≤ length z.now }
+{
+    let whole = run_len(Class::Digit, z);
+    if byte(z, whole) == b'.' && byte(z, whole + 1).is_ascii_digit() {
+        fraction(whole, z)
+    } else {
+        valued(Kind::Digits, whole, 0, integer_within(&z[..whole]))
     }
 }
 
@@ -176,7 +230,7 @@ pub fn front(z: &[u8]) -> Piece
     } else if b.is_ascii_alphabetic() {
         word(z)
     } else if b.is_ascii_digit() {
-        integer(z)
+        number(z)
     } else if b == b'\'' {
         quoted(z)
     } else {

@@ -10,7 +10,7 @@ pub enum SqlKind {
     NotText,
     /// A character that begins no token, a word of more than 64 bytes, or a text literal that is not closed.
     BadToken,
-    /// An integer above 2^127 - 1.
+    /// A number whose digits make more than 2^127 - 1, or with more than 18 digits after its point.
     NumberTooWide,
     /// A token too many.
     TooLong,

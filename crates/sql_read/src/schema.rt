@@ -22,6 +22,8 @@ pub struct ColumnType {
     kind: ColumnKind,
     width: u32,
     width_at: u32,
+    scale: u32,
+    scale_at: u32,
 }
 
 /// A column so far, and the keys of its table so far.
@@ -52,6 +54,8 @@ fn typed(kind: ColumnKind, width: u32, at: u32) -> ColumnType
         kind,
         width,
         width_at: at,
+        scale: 0,
+        scale_at: at,
     }
 }
 
@@ -61,14 +65,61 @@ fn capped(n: u128) -> u32
     if n > 4294967295 { u32::MAX } else { n as u32 }
 }
 
+/// The type of this word with this number in parentheses.
+fn sized(kind: ColumnKind, t: Token, n: Token) -> ColumnType
+    ensures { result ≡ grammar.sized kind t n }
+{
+    ColumnType {
+        kind,
+        width: capped(n.value),
+        width_at: n.at,
+        scale: 0,
+        scale_at: t.at,
+    }
+}
+
+fn scaled(p: ColumnType, n: Token) -> ColumnType
+    ensures { result ≡ grammar.scaled p n }
+{
+    ColumnType {
+        scale: capped(n.value),
+        scale_at: n.at,
+        ..p
+    }
+}
+
 #[tactic(auto, unfolding(crate::specs::SchemaParsers::width))]
-fn width(tokens: &mut Cursor<'_, Token>) -> Result<ColumnType, ReadError<Fault>>
-    ensures { Reads (spec.width tokens.old) result tokens.new }
+fn width(tokens: &mut Cursor<'_, Token>, t: Token) -> Result<ColumnType, ReadError<Fault>>
+    ensures { Reads (spec.width t tokens.old) result tokens.new }
 {
     expect(tokens, Kind::OpenParen)?;
     let n = expect(tokens, Kind::Digits)?;
     expect(tokens, Kind::CloseParen)?;
-    Ok(typed(ColumnKind::Text, capped(n.value), n.at))
+    Ok(sized(ColumnKind::Text, t, n))
+}
+
+#[tactic(auto, unfolding(crate::specs::SchemaParsers::scale))]
+fn scale(tokens: &mut Cursor<'_, Token>, p: ColumnType) -> Result<ColumnType, ReadError<Fault>>
+    ensures { Reads (spec.scale p tokens.old) result tokens.new }
+{
+    if is_next(tokens, Kind::Comma) {
+        expect(tokens, Kind::Comma)?;
+        let n = expect(tokens, Kind::Digits)?;
+        Ok(scaled(p, n))
+    } else {
+        Ok(p)
+    }
+}
+
+#[tactic(auto, unfolding(crate::specs::SchemaParsers::precision))]
+fn precision(tokens: &mut Cursor<'_, Token>, t: Token) -> Result<ColumnType, ReadError<Fault>>
+    ensures { Reads (spec.precision t tokens.old) result tokens.new }
+{
+    expect(tokens, Kind::OpenParen)?;
+    let n = expect(tokens, Kind::Digits)?;
+    let p = scale(tokens, sized(ColumnKind::Decimal, t, n))?;
+    expect(tokens, Kind::CloseParen)?;
+    Ok(p)
 }
 
 fn names_integers(kind: Kind) -> bool
@@ -113,13 +164,16 @@ fn column_type(tokens: &mut Cursor<'_, Token>) -> Result<ColumnType, ReadError<F
     } else if is_next(tokens, Kind::Date) {
         let t = expect(tokens, Kind::Date)?;
         Ok(typed(ColumnKind::Date, 0, t.at))
+    } else if is_next(tokens, Kind::Decimal) {
+        let t = expect(tokens, Kind::Decimal)?;
+        precision(tokens, t)
     } else if is_next(tokens, Kind::Varchar) {
-        expect(tokens, Kind::Varchar)?;
-        width(tokens)
+        let t = expect(tokens, Kind::Varchar)?;
+        width(tokens, t)
     } else {
         let t = expect(tokens, Kind::Char)?;
         if is_next(tokens, Kind::OpenParen) {
-            width(tokens)
+            width(tokens, t)
         } else {
             Ok(typed(ColumnKind::Text, 1, t.at))
         }
@@ -142,6 +196,8 @@ fn begun(
             kind: t.kind,
             width: t.width,
             width_at: t.width_at,
+            scale: t.scale,
+            scale_at: t.scale_at,
             not_null: false,
         },
         keys,

@@ -105,7 +105,7 @@ fn read_bytes(alloc: Global, bytes: &[u8]) -> Result<Vec<TableDef>, SqlRefusal>
 /// The text is `[create {";" create} [";"]]` with
 /// `create = CREATE TABLE name "(" part {"," part} ")"`,
 /// `part = name type {NOT NULL | PRIMARY KEY} | PRIMARY KEY "(" name ")"` and
-/// `type = INTEGER | INT | BIGINT | DATE | CHAR ["(" integer ")"] | VARCHAR "(" integer ")"`.
+/// `type = INTEGER | INT | BIGINT | DATE | CHAR ["(" integer ")"] | VARCHAR "(" integer ")" | DECIMAL "(" integer ["," integer] ")"`.
 /// It has at most 16,384 tokens.
 pub fn read_schema(alloc: Global, bytes: &[u8]) -> Result<Vec<TableDef>, SqlRefusal>
     requires { length bytes.now < 2 ^ 32 }

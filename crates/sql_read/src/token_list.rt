@@ -15,8 +15,10 @@ pub struct Token {
     pub at: u32,
     /// How many bytes it takes.
     pub len: u32,
-    /// The value of an integer of at most 2^127 - 1; 0 for every other kind.
+    /// The value of a number without its point, at most 2^127 - 1; 0 for every other kind.
     pub value: u128,
+    /// How many of its digits stand after the point, at most 18; 0 where there is none.
+    pub scale: u32,
 }
 
 fn token_of(at: u32, piece: Piece) -> Option<Token>
@@ -28,6 +30,7 @@ fn token_of(at: u32, piece: Piece) -> Option<Token>
         at,
         len: piece.len as u32,
         value: piece.value,
+        scale: piece.scale,
     };
     match piece.kind {
         Kind::Blank => None,
