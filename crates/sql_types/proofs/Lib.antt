@@ -1,2 +1,4 @@
 pub mod FindingFolds
 pub mod FirstFindings
+pub mod Sizes
+mod Examples

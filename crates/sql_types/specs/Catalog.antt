@@ -1,5 +1,5 @@
 -- What is wrong with the definitions of a schema: each rule with the byte at which it is broken.
-use Rattle.std.specs.Prelude.{ℕ, ◌&&◌, ◌||◌, Bool, true, false, not, nat_lt, List, [], ◌∷◌, ◌++◌, take, drop, map, filter, flat_map, Result, Ok, Err, Option, Some, None}
+use Rattle.std.specs.Prelude.{ℕ, ◌&&◌, Bool, true, false, not, List, [], ◌∷◌, ◌++◌, take, drop, map, filter, flat_map, Result, Ok, Err, Option, Some, None}
 use Rattle.std.specs.List.{list_any}
 use Rattle.std.specs.Str.{bytes_eq}
 use Rattle.sql_read.specs.declared.definition.ColumnKind.{ColumnKind}
@@ -7,11 +7,12 @@ use Rattle.sql_read.specs.declared.definition.ColumnDef.{ColumnDef}
 use Rattle.sql_read.specs.declared.definition.KeyDef.{KeyDef}
 use Rattle.sql_read.specs.declared.definition.TableDef.{TableDef}
 use Rattle.sql_read.specs.declared.definition.ColumnKind.TheVariants as kind
-use Rattle.sql_types.specs.declared.refusal.SchemaKind.TheVariants.{TableTwice, ColumnTwice, TwoKeys, KeyUnknown, BadWidth, TooManyTables, TooManyColumns, NoNotNull}
+use Rattle.sql_types.specs.declared.refusal.SchemaKind.TheVariants.{TableTwice, ColumnTwice, TwoKeys, KeyUnknown, BadWidth, TooManyTables, TooManyColumns}
 use Rattle.sql_types.specs.declared.refusal.SchemaRefusal.{SchemaRefusal}
 use Rattle.sql_types.specs.declared.refusal.SchemaRefusal.TheVariants.{NoMemory, Bad}
 use Rattle.sql_types.specs.declared.finding.Finding.{Finding}
 use Rattle.sql_types.specs.Findings.{found, first_of, IsFirst}
+use Rattle.sql_types.specs.Widths.{is_bad_width, bad_width_at}
 
 -- each element with those before it
 abbrev pub with_earlier : {X : Type 0} → List X → List (List X × X)
@@ -65,13 +66,12 @@ abbrev pub is_text : ColumnKind → Bool
 is_text kind.Text = true
 is_text kind = false
 
--- a text is 1 to 255 bytes wide
-abbrev pub is_bad_width : ColumnDef → Bool
-is_bad_width c = is_text c.kind && (nat_lt c.width 1 || nat_lt 255 c.width)
+abbrev pub bad_width : ColumnDef → Finding
+bad_width c = found BadWidth (bad_width_at c)
 
--- BadWidth: the width of a CHAR or VARCHAR outside 1 to 255
+-- BadWidth: the first number of a column's type that is out of range
 abbrev pub bad_widths : TableDef → List Finding
-bad_widths t = map (λ c. found BadWidth c.width_at) (filter is_bad_width t.columns)
+bad_widths t = map bad_width (filter is_bad_width t.columns)
 
 -- TooManyTables: the 17th table's name
 abbrev pub too_many_tables : List TableDef → List Finding
@@ -81,20 +81,13 @@ too_many_tables defs = map (λ t. found TooManyTables t.at) (take 1 (drop 16 def
 abbrev pub too_many_columns : TableDef → List Finding
 too_many_columns t = map (λ c. found TooManyColumns c.at) (take 1 (drop 64 t.columns))
 
--- a key makes its column NOT NULL
+-- A column may hold nulls where neither NOT NULL nor a key names it. Each key of the table counts, wherever it stands.
 abbrev pub may_be_null : TableDef → ColumnDef → Bool
 may_be_null t c = not c.not_null && not (list_any (is_key_of c.name) t.keys)
 
-abbrev pub no_not_null : ColumnDef → Finding
-no_not_null c = found NoNotNull c.at
-
--- NoNotNull: the name of a column that has neither NOT NULL nor a key
-abbrev pub no_not_nulls : TableDef → List Finding
-no_not_nulls t = map no_not_null (filter (may_be_null t) t.columns)
-
 -- what is wrong within a table
 unfoldable pub table_findings : TableDef → List Finding
-table_findings t = too_many_columns t ++ (columns_twice t ++ (two_keys t ++ (keys_unknown t ++ (bad_widths t ++ no_not_nulls t))))
+table_findings t = too_many_columns t ++ (columns_twice t ++ (two_keys t ++ (keys_unknown t ++ bad_widths t)))
 
 -- all that is wrong
 unfoldable pub findings : List TableDef → List Finding

@@ -1,7 +1,7 @@
 -- What is wrong at which byte, and the first of such findings.
 use Rattle.std.specs.Prelude.{◌≡◌, ℕ, ◌<◌, ◌≤◌, ◌==◌, ◌&&◌, ◌||◌, Bool, true, nat_lt, if◌then◌else◌, List, fold, Option, Some, None, All, Contains, ◌⊎◌}
 use Rattle.sql_types.specs.declared.refusal.SchemaKind.{SchemaKind}
-use Rattle.sql_types.specs.declared.refusal.SchemaKind.TheVariants.{TableTwice, ColumnTwice, TwoKeys, KeyUnknown, BadWidth, TooManyTables, TooManyColumns, NoNotNull}
+use Rattle.sql_types.specs.declared.refusal.SchemaKind.TheVariants.{TableTwice, ColumnTwice, TwoKeys, KeyUnknown, BadWidth, TooManyTables, TooManyColumns}
 use Rattle.sql_types.specs.declared.finding.Finding.{Finding}
 
 -- the order of the kinds at one byte
@@ -13,7 +13,6 @@ rank KeyUnknown = 3
 rank BadWidth = 4
 rank TooManyTables = 5
 rank TooManyColumns = 6
-rank NoNotNull = 7
 
 abbrev pub found : SchemaKind → ℕ → Finding
 found kind at = record { at = at; kind = kind }

@@ -1,2 +1,4 @@
 pub mod Findings
+pub mod Widths
 pub mod Catalog
+pub mod Examples

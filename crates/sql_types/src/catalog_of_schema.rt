@@ -7,13 +7,13 @@ ghost use Rattle.sql_types.specs.Findings.{first_from, first_of};
 use crate::finding::Finding;
 use crate::refusal::SchemaRefusal;
 use crate::rules::{
-    bad_widths, columns_twice, keys_unknown, no_not_nulls, tables_twice, too_many_columns,
-    too_many_tables, two_keys,
+    bad_widths, columns_twice, keys_unknown, tables_twice, too_many_columns, too_many_tables,
+    two_keys,
 };
 use sql_read::TableDef;
 use std::marker::Model;
 
-/// The tables of a database: at most 16, of at most 64 columns each, with names of their own, known keys, texts of 1 to 255 bytes and no column that may be null.
+/// The tables of a database: at most 16, of at most 64 columns each, with names of their own, known keys, texts of 1 to 255 bytes and decimals of 1 to 18 digits.
 #[derive(Drop)]
 pub struct Catalog {
     defs: Vec<TableDef>,
@@ -41,8 +41,7 @@ fn table_findings(first: Option<Finding>, t: &TableDef) -> Option<Finding>
     let first = columns_twice(first, t);
     let first = two_keys(first, t);
     let first = keys_unknown(first, t);
-    let first = bad_widths(first, t);
-    no_not_nulls(first, t)
+    bad_widths(first, t)
 }
 
 fn first_wrong(defs: &[TableDef]) -> Option<Finding>

@@ -1,6 +1,6 @@
 //! The first of some findings.
 
-ghost use Rattle.std.specs.Prelude.{◌≡◌, Option, Some, None, if◌then◌else◌};
+ghost use Rattle.std.specs.Prelude.{◌≡◌, Option, Some, None};
 ghost use Rattle.sql_types.specs.Findings as spec;
 
 use crate::refusal::SchemaKind;
@@ -39,11 +39,4 @@ pub fn earlier(first: Option<Finding>, q: Finding) -> Option<Finding>
     ensures { result ≡ spec.earlier first q }
 {
     if improves(first, q) { Some(q) } else { first }
-}
-
-/// The same, where there is one more.
-pub fn earlier_if(first: Option<Finding>, q: Finding, is_wrong: bool) -> Option<Finding>
-    ensures { result ≡ (if is_wrong then spec.earlier first q else first) }
-{
-    if is_wrong { earlier(first, q) } else { first }
 }

@@ -17,14 +17,12 @@ pub enum SchemaKind {
     TwoKeys,
     /// A key's name that is no column of its table.
     KeyUnknown,
-    /// The width of a text that is not 1 to 255 bytes.
+    /// The first number of a column's type that is out of range: the width of a text that is not 1 to 255 bytes, the precision of a decimal that is not 1 to 18 digits, or its scale above that.
     BadWidth,
     /// The name of the 17th table.
     TooManyTables,
     /// The name of the 65th column of a table.
     TooManyColumns,
-    /// The name of a column that has neither `NOT NULL` nor a key.
-    NoNotNull,
 }
 
 impl SchemaKind {

@@ -4,8 +4,9 @@ ghost use Rattle.std.specs.Prelude.{◌≡◌, length};
 ghost use Rattle.std.specs.List.{list_any};
 ghost use Rattle.sql_types.specs.Catalog as spec;
 ghost use Rattle.sql_types.specs.Findings.{first_from, noted};
+ghost use Rattle.sql_types.specs.Widths.{is_bad_size, is_bad_scale, is_bad_width};
 
-use crate::finding::{Finding, earlier, earlier_if, found, improves};
+use crate::finding::{Finding, earlier, found, improves};
 use crate::refusal::SchemaKind;
 use sql_read::{ColumnDef, ColumnKind, KeyDef, TableDef};
 
@@ -19,12 +20,6 @@ fn has_column(columns: &[ColumnDef], name: &str) -> bool
     ensures { result ≡ list_any (spec.is_column_named name.now) columns.now }
 {
     columns.iter().any(|c| c.name.text() == name)
-}
-
-fn has_key(keys: &[KeyDef], name: &str) -> bool
-    ensures { result ≡ list_any (spec.is_key_of name.now) keys.now }
-{
-    keys.iter().any(|k| k.column.text() == name)
 }
 
 // The names before are looked at only where the finding would be the first: so a schema of thousands of columns is refused in linear time.
@@ -105,20 +100,41 @@ pub fn keys_unknown(first: Option<Finding>, t: &TableDef) -> Option<Finding>
     best
 }
 
-fn is_bad_width(c: &ColumnDef) -> bool
-    ensures { result ≡ spec.is_bad_width c.now }
+fn is_bad_size(c: &ColumnDef) -> bool
+    ensures { result ≡ is_bad_size c.now.kind c.now.width }
 {
-    c.kind == ColumnKind::Text && (c.width < 1 || c.width > 255)
+    match c.kind {
+        ColumnKind::Text => c.width < 1 || c.width > 255,
+        ColumnKind::Decimal => c.width < 1 || c.width > 18,
+        ColumnKind::Integer | ColumnKind::Date => false,
+    }
 }
 
-/// A width that is none.
+fn is_bad_scale(c: &ColumnDef) -> bool
+    ensures { result ≡ is_bad_scale c.now.kind c.now.width c.now.scale }
+{
+    c.kind == ColumnKind::Decimal && c.scale > c.width
+}
+
+fn with_width(first: Option<Finding>, c: &ColumnDef) -> Option<Finding>
+    ensures { result ≡ noted is_bad_width spec.bad_width first c.now }
+{
+    if is_bad_size(c) {
+        earlier(first, found(SchemaKind::BadWidth, c.width_at))
+    } else if is_bad_scale(c) {
+        earlier(first, found(SchemaKind::BadWidth, c.scale_at))
+    } else {
+        first
+    }
+}
+
+/// A number of a column's type that is out of range.
 pub fn bad_widths(first: Option<Finding>, t: &TableDef) -> Option<Finding>
     ensures { result ≡ first_from first (spec.bad_widths t.now) }
 {
     let mut best = first;
     for c in t.columns.as_slice() {
-        let q = found(SchemaKind::BadWidth, c.width_at);
-        best = earlier_if(best, q, is_bad_width(c));
+        best = with_width(best, c);
     }
     best
 }
@@ -141,32 +157,4 @@ pub fn too_many_columns(first: Option<Finding>, t: &TableDef) -> Option<Finding>
         None => first,
         Some(c) => earlier(first, found(SchemaKind::TooManyColumns, c.at)),
     }
-}
-
-fn may_be_null(t: &TableDef, c: &ColumnDef) -> bool
-    ensures { result ≡ spec.may_be_null t.now c.now }
-{
-    !c.not_null && !has_key(t.keys.as_slice(), c.name.text())
-}
-
-fn with_null(first: Option<Finding>, t: &TableDef, c: &ColumnDef) -> Option<Finding>
-    ensures { result ≡ noted (spec.may_be_null t.now) spec.no_not_null first c.now }
-{
-    let q = found(SchemaKind::NoNotNull, c.at);
-    if improves(first, q) && may_be_null(t, c) {
-        Some(q)
-    } else {
-        first
-    }
-}
-
-/// A column with neither NOT NULL nor a key.
-pub fn no_not_nulls(first: Option<Finding>, t: &TableDef) -> Option<Finding>
-    ensures { result ≡ first_from first (spec.no_not_nulls t.now) }
-{
-    let mut best = first;
-    for c in t.columns.as_slice() {
-        best = with_null(best, t, c);
-    }
-    best
 }
