@@ -2,7 +2,7 @@
 
 ghost use Rattle.std.specs.Prelude.{◌<◌, ◌^◌, length};
 
-use crate::catalogs::show_catalog;
+use crate::catalogs::{show_catalog, show_nullable};
 use crate::definitions::{show_definitions, show_reading};
 use crate::tokens::{show_limited, show_listing};
 use case_text::{after, before, spelled};
@@ -39,6 +39,7 @@ fn show_answer(out: &mut String, alloc: Global, word: &[u8], text: &[u8]) -> Res
         b"reads" => show_reading(out, alloc, text),
         b"schema" => show_definitions(out, alloc, text),
         b"catalog" => show_catalog(out, alloc, text),
+        b"nullable" => show_nullable(out, alloc, text),
         b"listing" => show_listing(out, alloc, text),
         _ => out.push_str("no case"),
     }

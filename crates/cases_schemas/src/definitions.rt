@@ -15,16 +15,22 @@ fn show_at(out: &mut String, word: &str, at: u32) -> Result<(), AllocError> {
     show_count(out, at as u128)
 }
 
-/// The column as `(name@byte kind width@byte)`, with `not-null` behind where that is written.
+/// A number and the byte at which it stands: ` number@byte`.
+fn show_number_at(out: &mut String, number: u32, at: u32) -> Result<(), AllocError> {
+    out.push(' ')?;
+    show_count(out, number as u128)?;
+    out.push('@')?;
+    show_count(out, at as u128)
+}
+
+/// The column as `(name@byte kind width@byte scale@byte)`, with `not-null` behind where that is written.
 fn show_column(out: &mut String, c: &ColumnDef) -> Result<(), AllocError> {
     out.push_str(" (")?;
     show_at(out, c.name.text(), c.at)?;
     out.push(' ')?;
     out.push_str(column_kind_name(c.kind))?;
-    out.push(' ')?;
-    show_count(out, c.width as u128)?;
-    out.push('@')?;
-    show_count(out, c.width_at as u128)?;
+    show_number_at(out, c.width, c.width_at)?;
+    show_number_at(out, c.scale, c.scale_at)?;
     if c.not_null {
         out.push_str(" not-null")?;
     }

@@ -15,7 +15,6 @@ fn schema_kind_name(kind: SchemaKind) -> &'static str {
         SchemaKind::BadWidth => "BadWidth",
         SchemaKind::TooManyTables => "TooManyTables",
         SchemaKind::TooManyColumns => "TooManyColumns",
-        SchemaKind::NoNotNull => "NoNotNull",
     }
 }
 

@@ -4,6 +4,7 @@
 //! - `reads TEXT`: that the text is a schema, or the byte and the kind of its first refusal;
 //! - `schema TEXT`: the definitions of a schema;
 //! - `catalog TEXT`: the tables of a schema's catalog, or the byte and the kind of what is wrong first;
+//! - `nullable TEXT`: the columns of a schema that may hold nulls;
 //! - `listing BYTES`: a listing that was made of all bytes but the last, to which that one was added, and its length;
 //! - a line that is empty or begins with `#` is no case.
 #![tactic(auto)]

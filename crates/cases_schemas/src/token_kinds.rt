@@ -11,6 +11,7 @@ pub fn kind_name(kind: Kind) -> &'static str {
         Kind::Past => "past",
         Kind::Name => "name",
         Kind::Digits => "digits",
+        Kind::Fraction => "fraction",
         Kind::Quoted => "text",
         Kind::And => "AND",
         Kind::As => "AS",

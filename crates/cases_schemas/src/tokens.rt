@@ -7,7 +7,24 @@ use case_text::{after, before, first_number, show_bytes, show_count};
 use sql_read::{Kind, Listing, Token, tokens};
 use std::alloc::{AllocError, Global};
 
-/// The token as `(byte+length kind)`, with the value of an integer behind.
+/// The value of an integer; the value of a fraction without its point, and its digits behind the point; nothing of any other token.
+fn show_number(out: &mut String, t: &Token) -> Result<(), AllocError> {
+    match t.kind {
+        Kind::Digits => {
+            out.push(' ')?;
+            show_count(out, t.value)
+        }
+        Kind::Fraction => {
+            out.push(' ')?;
+            show_count(out, t.value)?;
+            out.push(' ')?;
+            show_count(out, t.scale as u128)
+        }
+        _ => Ok(()),
+    }
+}
+
+/// The token as `(byte+length kind)`, with what a number is behind.
 fn show_token(out: &mut String, t: &Token) -> Result<(), AllocError> {
     out.push_str(" (")?;
     show_count(out, t.at as u128)?;
@@ -15,10 +32,7 @@ fn show_token(out: &mut String, t: &Token) -> Result<(), AllocError> {
     show_count(out, t.len as u128)?;
     out.push(' ')?;
     out.push_str(kind_name(t.kind))?;
-    if t.kind == Kind::Digits {
-        out.push(' ')?;
-        show_count(out, t.value)?;
-    }
+    show_number(out, t)?;
     out.push(')')?;
     Ok(())
 }
