@@ -12,18 +12,30 @@ pub struct ColumnRef {
     pub column: u32,
 }
 
+/// The type of a column.
+#[derive(Clone, Copy)]
+pub struct ColumnType {
+    pub kind: ColumnKind,
+    /// The width of a text in bytes, the precision of a decimal in digits, 0 for every other kind.
+    pub width: u32,
+    /// How many digits of a decimal stand after the point, 0 for every other kind.
+    pub scale: u32,
+}
+
 /// An expression whose operands have the kinds that its operators take. Parentheses make no node.
+///
+/// A number is whole and unscaled: it stands for itself divided by ten to the power of its expression's scale.
 #[derive(Drop)]
 pub enum TypedExpr {
-    /// A whole number that is not negative.
-    Number(u128),
+    /// A number that is not negative, without its point, and its scale: how many of its digits stand after the point.
+    Number(u128, u32),
     /// A text literal.
     Text(Name),
     /// A date with its intervals: the days from 1970-01-01.
     Date(i32),
-    Column(ColumnRef, ColumnKind),
-    /// An aggregate, by its place in the query's list.
-    Aggregate(u32),
+    Column(ColumnRef, ColumnType),
+    /// An aggregate, by its place in the query's list, and its scale.
+    Aggregate(u32, u32),
     Signed(Sign, Boxed<TypedExpr>),
     Not(Boxed<TypedExpr>),
     Binary(BinaryOp, Boxed<TypedExpr>, Boxed<TypedExpr>),
@@ -33,6 +45,10 @@ pub enum TypedExpr {
     Between(Polarity, Boxed<TypedExpr>, Boxed<TypedExpr>, Boxed<TypedExpr>),
     /// The tested value, and those that it may be.
     In(Polarity, Boxed<TypedExpr>, Items<TypedExpr>),
+    /// Whether a value is null, or is not.
+    IsNull(Polarity, Boxed<TypedExpr>),
+    /// The first operand that is not null, and null where all are: the first, and the others.
+    Coalesce(Boxed<TypedExpr>, Items<TypedExpr>),
 }
 
 /// What an aggregate makes of its argument's values.
