@@ -1,0 +1,6 @@
+pub mod Digits
+pub mod Integers
+pub mod Decimals
+pub mod Capped
+pub mod Laws
+pub mod Examples
