@@ -4,3 +4,4 @@ pub mod Lists
 pub mod Narrow
 pub mod Parts
 pub mod Worked
+pub mod Greatest

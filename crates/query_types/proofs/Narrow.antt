@@ -6,7 +6,7 @@ use Rattle.sql_read.specs.declared.definition.TableDef.{TableDef}
 use Rattle.sql_types.specs.declared.refusal.SchemaKind.TheVariants.{TooManyTables, TooManyColumns}
 use Rattle.sql_types.specs.declared.finding.Finding.{Finding}
 use Rattle.sql_types.specs.Findings.{found}
-use Rattle.sql_types.specs.Catalog.{findings, table_findings, tables_twice, columns_twice, two_keys, keys_unknown, bad_widths, no_not_nulls}
+use Rattle.sql_types.specs.Catalog.{findings, table_findings, tables_twice, columns_twice, two_keys, keys_unknown, bad_widths}
 use Rattle.query_types.specs.Names.{IsNarrow}
 
 front-nil : {X : Type 0} (xs ys : List X) → xs ++ ys ≡ [] → xs ≡ []
@@ -25,7 +25,7 @@ short f (suc n) (x ∷ xs) e = let below : length xs ≤ n = short f n xs e in o
 
 few-columns : (t : TableDef) → table_findings t ≡ [] → length t.columns ≤ 64
 unfolding table_findings
-few-columns t e = short (λ c. found TooManyColumns c.at) 64 t.columns (front-nil _ (columns_twice t ++ (two_keys t ++ (keys_unknown t ++ (bad_widths t ++ no_not_nulls t)))) e)
+few-columns t e = short (λ c. found TooManyColumns c.at) 64 t.columns (front-nil _ (columns_twice t ++ (two_keys t ++ (keys_unknown t ++ bad_widths t))) e)
 
 all-few : (defs : List TableDef) → flat_map table_findings defs ≡ [] → All (λ t. length t.columns ≤ 64) defs
 all-few [] e = All-nil (λ t. length t.columns ≤ 64)

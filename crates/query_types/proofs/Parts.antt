@@ -26,16 +26,18 @@ IsNoBinary c = (o : BinaryOp) (x y : TypedExpr) → c ≡ e.Binary o x y → ⊥
 by_layer : (d : TypedExpr-F TypedExpr) → IsNoBinary (roll-TypedExpr d) → joined_parts (roll-TypedExpr d) ≡ None
 unfolding joined_parts IsNoBinary
 by_layer (TypedExpr-F.Binary o x y) other = absurd (other o x y (rolls-Binary o x y))
-by_layer (TypedExpr-F.Number n) other = para-roll-TypedExpr Parts form_parts (TypedExpr-F.Number n)
+by_layer (TypedExpr-F.Number n scale) other = para-roll-TypedExpr Parts form_parts (TypedExpr-F.Number n scale)
 by_layer (TypedExpr-F.Text t) other = para-roll-TypedExpr Parts form_parts (TypedExpr-F.Text t)
 by_layer (TypedExpr-F.Date d) other = para-roll-TypedExpr Parts form_parts (TypedExpr-F.Date d)
 by_layer (TypedExpr-F.Column r k) other = para-roll-TypedExpr Parts form_parts (TypedExpr-F.Column r k)
-by_layer (TypedExpr-F.Aggregate n) other = para-roll-TypedExpr Parts form_parts (TypedExpr-F.Aggregate n)
+by_layer (TypedExpr-F.Aggregate n scale) other = para-roll-TypedExpr Parts form_parts (TypedExpr-F.Aggregate n scale)
 by_layer (TypedExpr-F.Signed s x) other = para-roll-TypedExpr Parts form_parts (TypedExpr-F.Signed s x)
 by_layer (TypedExpr-F.Not x) other = para-roll-TypedExpr Parts form_parts (TypedExpr-F.Not x)
 by_layer (TypedExpr-F.Divide x s n) other = para-roll-TypedExpr Parts form_parts (TypedExpr-F.Divide x s n)
 by_layer (TypedExpr-F.Between p x y z) other = para-roll-TypedExpr Parts form_parts (TypedExpr-F.Between p x y z)
 by_layer (TypedExpr-F.In p x ys) other = para-roll-TypedExpr Parts form_parts (TypedExpr-F.In p x ys)
+by_layer (TypedExpr-F.IsNull p x) other = para-roll-TypedExpr Parts form_parts (TypedExpr-F.IsNull p x)
+by_layer (TypedExpr-F.Coalesce x ys) other = para-roll-TypedExpr Parts form_parts (TypedExpr-F.Coalesce x ys)
 
 pub other-alone : (c : TypedExpr) → ((o : BinaryOp) (x y : TypedExpr) → c ≡ e.Binary o x y → ⊥) → parts c ≡ c ∷ []
 unfolding parts IsNoBinary

@@ -3,7 +3,7 @@ use Rattle.std.proofs.Common.{◌≡◌, ℕ, ℤ, List, map, sym, ap, ◌∙◌
 use Rattle.query_trees.specs.declared.expr.Expr.{Expr, fold_out-Expr}
 use Rattle.query_trees.specs.declared.expr.Form.{Form, Form-F, fold-Form, fold-roll-Form}
 use Rattle.query_trees.specs.declared.expr.Form.TheVariants as f
-use Rattle.query_trees.specs.declared.expr.Form.TheVariants.{rolls-Number, rolls-Text, rolls-Date, rolls-Column, rolls-CountAll, rolls-Aggregate, rolls-Enclosed, rolls-Signed, rolls-Not, rolls-Binary, rolls-Divide, rolls-Between, rolls-In}
+use Rattle.query_trees.specs.declared.expr.Form.TheVariants.{rolls-Number, rolls-Text, rolls-Date, rolls-Column, rolls-CountAll, rolls-Aggregate, rolls-Enclosed, rolls-Signed, rolls-Not, rolls-Binary, rolls-Divide, rolls-Between, rolls-In, rolls-IsNull, rolls-Coalesce}
 use Rattle.query_trees.specs.declared.expr.AggregateKind.{AggregateKind}
 use Rattle.query_trees.specs.declared.expr.BinaryOp.{BinaryOp}
 use Rattle.query_trees.specs.declared.expr.ColumnName.{ColumnName}
@@ -22,12 +22,12 @@ typer-opens x = fold_out-Expr (ℕ → Typer) Typer form_typer expr_typer x
 opened : (x : Expr) (form : Form) (T : ℕ → Typer) → x.form ≡ form → form_typed form ≡ T → typer x ≡ T x.at
 opened x form T is law = typer-opens x ∙ ap (λ g. form_typed g x.at) is ∙ ap (λ g. g x.at) law
 
-form-Number : (n : ℕ) → form_typed (f.Number n) ≡ form_typer (Form-F.Number n)
+form-Number : (n scale : ℕ) → form_typed (f.Number n scale) ≡ form_typer (Form-F.Number n scale)
 unfolding typer
-form-Number n = ap form_typed (sym (rolls-Number n)) ∙ fold-roll-Form (ℕ → Typer) Typer form_typer expr_typer (Form-F.Number n)
+form-Number n scale = ap form_typed (sym (rolls-Number n scale)) ∙ fold-roll-Form (ℕ → Typer) Typer form_typer expr_typer (Form-F.Number n scale)
 
-pub typed-Number : (e : Expr) (n : ℕ) → e.form ≡ (f.Number n) → typer e ≡ form_typer (Form-F.Number n) e.at
-typed-Number e n is = opened e (f.Number n) (form_typer (Form-F.Number n)) is (form-Number n)
+pub typed-Number : (e : Expr) (n scale : ℕ) → e.form ≡ (f.Number n scale) → typer e ≡ form_typer (Form-F.Number n scale) e.at
+typed-Number e n scale is = opened e (f.Number n scale) (form_typer (Form-F.Number n scale)) is (form-Number n scale)
 
 form-Text : (t : List ℕ) → form_typed (f.Text t) ≡ form_typer (Form-F.Text t)
 unfolding typer
@@ -112,3 +112,17 @@ form-In p at x ys = ap form_typed (sym (rolls-In p at x ys)) ∙ fold-roll-Form 
 
 pub typed-In : (e : Expr) (p : Polarity) (at : ℕ) (x : Expr) (ys : List Expr) → e.form ≡ (f.In p at x ys) → typer e ≡ form_typer (Form-F.In p at (typer x) (map typer ys)) e.at
 typed-In e p at x ys is = opened e (f.In p at x ys) (form_typer (Form-F.In p at (typer x) (map typer ys))) is (form-In p at x ys)
+
+form-IsNull : (p : Polarity) (at : ℕ) (x : Expr) → form_typed (f.IsNull p at x) ≡ form_typer (Form-F.IsNull p at (typer x))
+unfolding typer
+form-IsNull p at x = ap form_typed (sym (rolls-IsNull p at x)) ∙ fold-roll-Form (ℕ → Typer) Typer form_typer expr_typer (Form-F.IsNull p at x)
+
+pub typed-IsNull : (e : Expr) (p : Polarity) (at : ℕ) (x : Expr) → e.form ≡ (f.IsNull p at x) → typer e ≡ form_typer (Form-F.IsNull p at (typer x)) e.at
+typed-IsNull e p at x is = opened e (f.IsNull p at x) (form_typer (Form-F.IsNull p at (typer x))) is (form-IsNull p at x)
+
+form-Coalesce : (x : Expr) (ys : List Expr) → form_typed (f.Coalesce x ys) ≡ form_typer (Form-F.Coalesce (typer x) (map typer ys))
+unfolding typer
+form-Coalesce x ys = ap form_typed (sym (rolls-Coalesce x ys)) ∙ fold-roll-Form (ℕ → Typer) Typer form_typer expr_typer (Form-F.Coalesce x ys)
+
+pub typed-Coalesce : (e x : Expr) (ys : List Expr) → e.form ≡ (f.Coalesce x ys) → typer e ≡ form_typer (Form-F.Coalesce (typer x) (map typer ys)) e.at
+typed-Coalesce e x ys is = opened e (f.Coalesce x ys) (form_typer (Form-F.Coalesce (typer x) (map typer ys))) is (form-Coalesce x ys)

@@ -19,15 +19,17 @@ use Rattle.query_trees.specs.declared.query.Query.{Query}
 use Rattle.query_trees.specs.Nodes.{node}
 use Rattle.typed_trees.specs.declared.typed.AggregateKind.TheVariants.{Sum}
 use Rattle.typed_trees.specs.declared.typed.ColumnRef.{ColumnRef}
+use Rattle.typed_trees.specs.declared.typed.ColumnType.{ColumnType}
 use Rattle.typed_trees.specs.declared.typed.KeyRef.TheVariants.{Item}
 use Rattle.typed_trees.specs.declared.typed.TypedQuery.{TypedQuery}
 use Rattle.typed_trees.specs.declared.typed.TypedExpr.TheVariants as e
-use Rattle.query_types.specs.declared.kinds.Family.TheVariants.{Logic, Comparison, Arithmetic}
-use Rattle.query_types.specs.declared.kinds.Kind.{Kind}
-use Rattle.query_types.specs.declared.kinds.Kind.TheVariants.{Number, Date, Text, Truth}
+use Rattle.typed_trees.specs.declared.kinds.Family.TheVariants.{Logic, Comparison, Arithmetic}
+use Rattle.typed_trees.specs.declared.kinds.Kind.{Kind}
+use Rattle.typed_trees.specs.declared.kinds.Kind.TheVariants.{Number, Date, Text, Truth}
+use Rattle.typed_trees.specs.Kinds.{takes}
 use Rattle.query_types.specs.declared.refusal.TypeKind.{TypeKind}
 use Rattle.query_types.specs.declared.refusal.TypeKind.TheVariants.{UnknownTable, UnknownColumn, TypesDiffer, NotGrouped, NestedAggregate, ZeroDivisor}
-use Rattle.query_types.specs.Kinds.{takes, folds}
+use Rattle.query_types.specs.Kinds.{folds}
 use Rattle.query_types.specs.Outcomes.{refuse}
 use Rattle.query_types.specs.Typing.{typed_query}
 
@@ -44,16 +46,16 @@ Operands =
     ∷ ((true ∷ false ∷ false ∷ false ∷ []) ∷ (false ∷ false ∷ false ∷ false ∷ []) ∷ (false ∷ false ∷ false ∷ false ∷ []) ∷ (false ∷ false ∷ false ∷ false ∷ []) ∷ [])
     ∷ []
 
--- what SUM, MIN, MAX and AVG take
+-- what COUNT, SUM, MIN, MAX and AVG take
 abbrev pub Arguments : Type 0
 Arguments =
-    map (λ a. map (folds a) kinds) (of.Sum ∷ of.Min ∷ of.Max ∷ of.Avg ∷ [])
-    ≡ (true ∷ false ∷ false ∷ false ∷ []) ∷ (true ∷ true ∷ true ∷ false ∷ []) ∷ (true ∷ true ∷ true ∷ false ∷ []) ∷ (true ∷ false ∷ false ∷ false ∷ []) ∷ []
+    map (λ a. map (folds a) kinds) (of.Count ∷ of.Sum ∷ of.Min ∷ of.Max ∷ of.Avg ∷ [])
+    ≡ (true ∷ true ∷ true ∷ false ∷ []) ∷ (true ∷ false ∷ false ∷ false ∷ []) ∷ (true ∷ true ∷ true ∷ false ∷ []) ∷ (true ∷ true ∷ true ∷ false ∷ []) ∷ (true ∷ false ∷ false ∷ false ∷ []) ∷ []
 
 -- ---- the catalog
 
 abbrev pub defined : List ℕ → ColumnKind → ℕ → ColumnDef
-defined name kind width = record { name = name; at = 0; kind = kind; width = width; width_at = 0; not_null = false }
+defined name kind width = record { name = name; at = 0; kind = kind; width = width; width_at = 0; scale = 0; scale_at = 0; not_null = false }
 
 abbrev pub keyed_table : List ℕ → List ColumnDef → TableDef
 keyed_table name columns = record { name = name; at = 0; columns = columns; keys = record { column = codes "id"; at = 0; name_at = 0 } ∷ [] }
@@ -73,7 +75,7 @@ abbrev pub column : ℕ → List ℕ → Expr
 column at name = node at (f.Column (name_at at name))
 
 abbrev pub number : ℕ → ℕ → Expr
-number at n = node at (f.Number n)
+number at n = node at (f.Number n 0)
 
 abbrev pub binary : BinaryOp → ℕ → Expr → Expr → Expr
 binary o at x y = node x.at (f.Binary o at x y)
@@ -176,6 +178,9 @@ sums_by_key = record {
 abbrev pub at_place : ℕ → ℕ → ColumnRef
 at_place source column = record { source = source; column = column }
 
+abbrev pub integer : ColumnType
+integer = record { kind = kind.Integer; width = 0; scale = 0 }
+
 -- u is source 0 and table 1 of the catalog, t is source 1 and table 0; column 1 of u is paired with the key, column 0 of t
 abbrev pub meant : TypedQuery
 meant = record {
@@ -185,9 +190,9 @@ meant = record {
       ∷ [];
   filter = [];
   groups = at_place 1 1 ∷ [];
-  aggregates = record { kind = Sum; argument = Some (e.Column (at_place 0 1) kind.Integer) } ∷ [];
+  aggregates = record { kind = Sum; argument = Some (e.Column (at_place 0 1) integer) } ∷ [];
   having = None;
-  items = e.Column (at_place 1 1) kind.Integer ∷ e.Aggregate 0 ∷ [];
+  items = e.Column (at_place 1 1) integer ∷ e.Aggregate 0 0 ∷ [];
   order = record { key = Item 1; descending = true } ∷ [];
   names = codes "a" ∷ codes "n" ∷ [];
 }

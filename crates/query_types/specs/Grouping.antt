@@ -12,14 +12,14 @@ use Rattle.query_types.specs.declared.refusal.TypeKind.TheVariants.{UnknownColum
 use Rattle.typed_trees.specs.declared.typed.ColumnRef.{ColumnRef}
 use Rattle.query_types.specs.declared.scope.Called.{Called}
 use Rattle.query_types.specs.declared.stars.Starred.{Starred}
-use Rattle.query_types.specs.Names.{columns_of, column_ref, resolved}
+use Rattle.query_types.specs.Names.{columns_of, column_ref, type_of_column, resolved}
 use Rattle.query_types.specs.Expressions.{has_aggregate, column_alone}
 use Rattle.query_types.specs.Outcomes.{Outcome, refuse, refuse_if, and_then}
 
 -- ---- `*`: all columns of all tables of FROM, in order
 
 abbrev pub starred : ℕ → ℕ → ColumnDef → Starred
-starred s k c = record { column = column_ref s k; kind = c.kind; name = c.name }
+starred s k c = record { column = column_ref s k; type_ = type_of_column c; name = c.name }
 
 abbrev pub table_columns : ℕ → ℕ → List ColumnDef → List Starred
 table_columns s k [] = []

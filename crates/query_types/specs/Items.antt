@@ -8,12 +8,12 @@ use Rattle.query_trees.specs.declared.clauses.SelectList.TheVariants as select
 use Rattle.query_types.specs.declared.refusal.TypeKind.TheVariants.{TypesDiffer, TooManyItems}
 use Rattle.typed_trees.specs.declared.typed.TypedExpr.{TypedExpr}
 use Rattle.typed_trees.specs.declared.typed.TypedExpr.TheVariants as e
-use Rattle.query_types.specs.declared.kinds.Role.TheVariants.{Alone}
+use Rattle.typed_trees.specs.declared.kinds.Role.TheVariants.{Alone}
 use Rattle.query_types.specs.declared.scope.Found.{Found}
 use Rattle.query_types.specs.declared.typing.Typed.{Typed}
 use Rattle.query_types.specs.declared.stars.Starred.{Starred}
 use Rattle.query_types.specs.declared.items.Shown.{Shown}
-use Rattle.query_types.specs.Kinds.{is_truth}
+use Rattle.typed_trees.specs.Kinds.{is_truth}
 use Rattle.query_types.specs.Names.{Scope, standing}
 use Rattle.query_types.specs.Expressions.{typer, column_alone}
 use Rattle.query_types.specs.Grouping.{every_column}
@@ -36,12 +36,12 @@ is_full shown = nat_le 64 (length shown.items)
 -- ---- `*` at a byte
 
 abbrev pub found_starred : Starred → Found
-found_starred f = record { column = f.column; kind = f.kind }
+found_starred f = record { column = f.column; type_ = f.type_ }
 
 unfoldable pub star_item : Scope → ℕ → Shown → Starred → Outcome Shown
 star_item s at shown f =
     refuse_if (is_full shown) TooManyItems at
-    (and_then (standing s at (found_starred f)) (λ g. Ok (with_item shown (e.Column f.column f.kind) f.name)))
+    (and_then (standing s at (found_starred f)) (λ g. Ok (with_item shown (e.Column f.column f.type_) f.name)))
 
 abbrev pub star_items : Scope → ℕ → Shown → List Starred → Outcome Shown
 star_items s at shown [] = Ok shown

@@ -9,3 +9,4 @@ pub mod Ordering
 pub mod Conjuncts
 pub mod Typing
 pub mod Examples
+pub mod ScaleExamples

@@ -1,13 +1,14 @@
 -- Which column of FROM a name means. After SQL-92 (ISO/IEC 9075:1992), 6.3 <table reference> and 6.4 <column reference>.
-use Rattle.std.specs.Prelude.{ℕ, suc, ◌≤◌, ◌==◌, ◌&&◌, Bool, true, not, if◌then◌else◌, List, [], ◌∷◌, ◌++◌, length, All, slice_get, option_to_list, Option, Some, None, Ok}
+use Rattle.std.specs.Prelude.{ℕ, suc, ◌≤◌, Bool, true, not, if◌then◌else◌, List, [], ◌∷◌, ◌++◌, length, All, slice_get, option_to_list, Option, Some, None, Ok}
 use Rattle.std.specs.List.{list_any}
 use Rattle.std.specs.Str.{bytes_eq}
 use Rattle.sql_read.specs.declared.definition.ColumnDef.{ColumnDef}
-use Rattle.sql_read.specs.declared.definition.ColumnKind.{ColumnKind}
 use Rattle.sql_read.specs.declared.definition.TableDef.{TableDef}
 use Rattle.sql_types.specs.Catalog.{is_column_named}
 use Rattle.query_trees.specs.declared.expr.ColumnName.{ColumnName}
 use Rattle.typed_trees.specs.declared.typed.ColumnRef.{ColumnRef}
+use Rattle.typed_trees.specs.declared.typed.ColumnType.{ColumnType}
+use Rattle.typed_trees.specs.Names.{same_column}
 use Rattle.query_types.specs.declared.refusal.TypeKind.TheVariants.{UnknownTable, UnknownColumn, Ambiguous, NotGrouped}
 use Rattle.query_types.specs.declared.scope.Called.{Called}
 use Rattle.query_types.specs.declared.scope.Found.{Found}
@@ -57,13 +58,17 @@ inside s = on_rows s.defs s.tables
 abbrev pub column_ref : ℕ → ℕ → ColumnRef
 column_ref s k = record { source = s; column = k }
 
-abbrev pub found : ℕ → ℕ → ColumnKind → Found
-found s k kind = record { column = column_ref s k; kind = kind }
+-- the type that a definition gives its column
+abbrev pub type_of_column : ColumnDef → ColumnType
+type_of_column c = record { kind = c.kind; width = c.width; scale = c.scale }
+
+abbrev pub found : ℕ → ℕ → ColumnDef → Found
+found s k c = record { column = column_ref s k; type_ = type_of_column c }
 
 -- the column of this name among the columns of source s, from its k-th on
 abbrev pub in_columns : List ℕ → ℕ → ℕ → List ColumnDef → Option Found
 in_columns name s k [] = None
-in_columns name s k (c ∷ cs) = if is_column_named name c then Some (found s k c.kind) else in_columns name s (suc k) cs
+in_columns name s k (c ∷ cs) = if is_column_named name c then Some (found s k c) else in_columns name s (suc k) cs
 
 unfoldable pub column_in : List TableDef → List ℕ → ℕ → Called → Option Found
 column_in defs name s t = in_columns name s 0 (columns_of defs t.table)
@@ -103,9 +108,6 @@ unfoldable pub resolved : List TableDef → List Called → ColumnName → Outco
 resolved defs tables c = resolved_by defs tables c c.table
 
 -- ---- columns on a group
-
-abbrev pub same_column : ColumnRef → ColumnRef → Bool
-same_column a b = (a.source == b.source) && (a.column == b.column)
 
 abbrev pub is_group_column : List ColumnRef → ColumnRef → Bool
 is_group_column groups a = list_any (λ g. same_column g a) groups

@@ -1,5 +1,5 @@
 -- The tables of FROM, from left to right. After SQL-92 (ISO/IEC 9075:1992), 6.3 <table reference>, 7.4 <from clause> and 7.5 <joined table>.
-use Rattle.std.specs.Prelude.{ℕ, ◌==◌, nat_le, Bool, not, if◌then◌else◌, List, [], ◌∷◌, ◌++◌, length, slice_get, Option, Some, None, Ok}
+use Rattle.std.specs.Prelude.{ℕ, ◌==◌, nat_le, Bool, not, ◌&&◌, ◌||◌, if◌then◌else◌, List, [], ◌∷◌, ◌++◌, length, slice_get, Option, Some, None, Ok}
 use Rattle.std.specs.List.{list_any, position_from, range_with_len}
 use Rattle.std.specs.Str.{bytes_eq}
 use Rattle.sql_read.specs.declared.definition.KeyDef.{KeyDef}
@@ -14,11 +14,12 @@ use Rattle.query_trees.specs.declared.clauses.JoinKind.TheVariants as join
 use Rattle.query_trees.specs.declared.clauses.Source.{Source}
 use Rattle.query_types.specs.declared.refusal.TypeKind.TheVariants.{UnknownTable, NameTwice, TypesDiffer, NotAKey, TooManyTables}
 use Rattle.typed_trees.specs.declared.typed.ColumnRef.{ColumnRef}
+use Rattle.typed_trees.specs.declared.typed.ColumnType.{ColumnType}
 use Rattle.typed_trees.specs.declared.typed.PlanSource.{PlanSource}
+use Rattle.typed_trees.specs.Kinds.{kind_of, same_kind, is_number}
 use Rattle.query_types.specs.declared.scope.Called.{Called}
 use Rattle.query_types.specs.declared.scope.Found.{Found}
 use Rattle.query_types.specs.declared.sources.Tables.{Tables}
-use Rattle.query_types.specs.Kinds.{kind_of, same_kind}
 use Rattle.query_types.specs.Names.{columns_of, resolved}
 use Rattle.query_types.specs.Outcomes.{Outcome, refuse, refuse_if, and_then}
 
@@ -71,13 +72,14 @@ keys_at None = []
 abbrev pub is_key : List TableDef → ℕ → List ℕ → Bool
 is_key defs table name = list_any (is_key_of name) (keys_at (slice_get defs table))
 
-abbrev pub same_kinds : Found → Found → Bool
-same_kinds x y = same_kind (kind_of x.kind) (kind_of y.kind)
+-- of one kind and, where they are numbers, of one scale
+abbrev pub same_types : ColumnType → ColumnType → Bool
+same_types a b = same_kind (kind_of a.kind) (kind_of b.kind) && (not (is_number (kind_of a.kind)) || (a.scale == b.scale))
 
--- the added table's own column and the one to its left: of one kind, and its own the key
+-- the added table's own column and the one to its left: of one type, and its own the key
 unfoldable pub linked : List TableDef → ℕ → ℕ → Found → ColumnName → Found → Outcome Link
 linked defs table at own name left =
-    refuse_if (not (same_kinds own left)) TypesDiffer at
+    refuse_if (not (same_types own.type_ left.type_)) TypesDiffer at
     (refuse_if (not (is_key defs table name.name)) NotAKey name.at (Ok (Some (left.column, own.column.column))))
 
 abbrev pub is_of : ℕ → Found → Bool

@@ -8,9 +8,10 @@ ghost use Rattle.query_types.specs.Names.{IsNarrow, seen, inside};
 ghost use Rattle.query_types.specs.Outcomes.{Collects};
 
 use crate::forms::{
-    among, between, binary, counted, divided, folded, literal, named, negated, signed,
+    among, between, binary, choice, counted, divided, folded, literal, named, negated, null_test,
+    signed,
 };
-use crate::kinds::{Kind, Role, family_of, is_truth, role_in};
+use crate::kinds::is_truth;
 use crate::outcome::refusal;
 use crate::refusal::{TypeKind, TypeRefusal};
 use crate::scope::{Level, Scope};
@@ -18,7 +19,7 @@ use crate::typing::Typed;
 use query_trees::{ColumnName, Expr, Form};
 use sql_read::Listing;
 use std::alloc::Global;
-use typed_trees::{Aggregate, TypedExpr};
+use typed_trees::{Aggregate, Kind, Role, TypedExpr, family_of, role_in};
 
 /// The same scope inside an aggregate.
 fn inside<'a>(scope: &Scope<'a>) -> Scope<'a>
@@ -31,20 +32,22 @@ fn inside<'a>(scope: &Scope<'a>) -> Scope<'a>
     }
 }
 
+/// Expressions that each stand so, from left to right.
 #[cycle(typing)]
-fn sides(
+fn each(
     alloc: Global,
     scope: &Scope<'_>,
     aggregates: &mut Listing<Aggregate>,
+    role: Role,
     items: &[Expr],
 ) -> Result<Listing<Typed>, TypeRefusal>
     requires narrow { IsNarrow scope.now.defs.now }
     requires few { length scope.now.tables.now ≤ 8 }
-    ensures { Collects (spec.each (seen scope.now) [] (map spec.typer items.now) aggregates.old) result aggregates.new }
+    ensures { Collects (spec.each (seen scope.now) role [] (map spec.typer items.now) aggregates.old) result aggregates.new }
 {
     let mut all = Listing::new(alloc);
     for x in items {
-        let t = expr(alloc, scope, aggregates, Role::Side, x)?;
+        let t = expr(alloc, scope, aggregates, role, x)?;
         all.push(t)?;
     }
     Ok(all)
@@ -64,14 +67,16 @@ pub fn expr(
     ensures { Collects (spec.typer e.now (seen scope.now) role aggregates.old) result aggregates.new }
 {
     match e.form.get() {
-        Form::Number(n) => Ok(Typed {
-            value: TypedExpr::Number(*n),
+        Form::Number(n, scale) => Ok(Typed {
+            value: TypedExpr::Number(*n, *scale),
             kind: Kind::Number,
+            scale: *scale,
         }),
         Form::Text(text) => literal(alloc, role, text, e.at),
         Form::Date(day) => Ok(Typed {
             value: TypedExpr::Date(*day),
             kind: Kind::Date,
+            scale: 0,
         }),
         Form::Column(c) => named(scope, c),
         Form::CountAll => counted(aggregates, scope.level, e.at),
@@ -106,8 +111,17 @@ pub fn expr(
         }
         Form::In(polarity, at, x, ys) => {
             let a = expr(alloc, scope, aggregates, Role::Side, x)?;
-            let ts = sides(alloc, scope, aggregates, ys.as_slice())?;
+            let ts = each(alloc, scope, aggregates, Role::Side, ys.as_slice())?;
             among(alloc, *polarity, *at, a, ts)
+        }
+        Form::IsNull(polarity, at, x) => {
+            let a = expr(alloc, scope, aggregates, Role::Alone, x)?;
+            null_test(alloc, *polarity, *at, a)
+        }
+        Form::Coalesce(x, ys) => {
+            let a = expr(alloc, scope, aggregates, Role::Alone, x)?;
+            let ts = each(alloc, scope, aggregates, Role::Alone, ys.as_slice())?;
+            choice(alloc, e.at, a, ts)
         }
     }
 }
@@ -151,15 +165,18 @@ pub fn has_aggregate(e: &Expr) -> bool
 {
     match e.form.get() {
         Form::CountAll | Form::Aggregate(..) => true,
-        Form::Number(_) | Form::Text(_) | Form::Date(_) | Form::Column(_) => false,
-        Form::Enclosed(x) | Form::Signed(_, x) | Form::Not(x) | Form::Divide(_, x, _) => {
-            has_aggregate(x)
-        }
+        Form::Number(..) | Form::Text(_) | Form::Date(_) | Form::Column(_) => false,
+        Form::Enclosed(x)
+        | Form::Signed(_, x)
+        | Form::Not(x)
+        | Form::Divide(_, x, _)
+        | Form::IsNull(_, _, x) => has_aggregate(x),
         Form::Binary(_, _, x, y) => has_aggregate(x) || has_aggregate(y),
         Form::Between(_, _, x, y, z) => {
             has_aggregate(x) || (has_aggregate(y) || has_aggregate(z))
         }
         Form::In(_, _, x, ys) => has_aggregate(x) || any_aggregate(ys.as_slice()),
+        Form::Coalesce(x, ys) => has_aggregate(x) || any_aggregate(ys.as_slice()),
     }
 }
 

@@ -6,12 +6,11 @@ ghost use Rattle.query_types.specs.Expressions as spec;
 ghost use Rattle.query_types.specs.Names.{IsNarrow, seen};
 ghost use Rattle.query_types.specs.Outcomes.{Gives, Collects};
 
-use crate::kinds::{
-    Kind, Role, compare, family_of, folds, is_number, is_truth, kind_of, makes, takes,
-};
+use crate::kinds::{compare, folds, is_number, is_truth, makes, takes};
 use crate::names::column;
 use crate::outcome::refusal;
 use crate::refusal::{TypeKind, TypeRefusal};
+use crate::scales::{binary_scale, fits_scale, greatest, scale_folded};
 use crate::scope::{Level, Scope};
 use crate::typing::{Typed, boxed};
 use io_edge::Name;
@@ -19,7 +18,7 @@ use query_trees::{AggregateKind as Written, BinaryOp, ColumnName, Divisor, Polar
 use sql_read::Listing;
 use sqlite_items::Items;
 use std::alloc::Global;
-use typed_trees::{Aggregate, AggregateKind, TypedExpr};
+use typed_trees::{Aggregate, AggregateKind, Kind, Role, TypedExpr, family_of, kind_of};
 
 /// A text literal, which stands only as a side.
 pub fn literal(alloc: Global, role: Role, text: &Name, at: u32) -> Result<Typed, TypeRefusal>
@@ -31,6 +30,7 @@ pub fn literal(alloc: Global, role: Role, text: &Name, at: u32) -> Result<Typed,
             Ok(Typed {
                 value: TypedExpr::Text(text),
                 kind: Kind::Text,
+                scale: 0,
             })
         }
         Role::Alone => Err(refusal(TypeKind::TypesDiffer, at)),
@@ -45,8 +45,9 @@ pub fn named(scope: &Scope<'_>, c: &ColumnName) -> Result<Typed, TypeRefusal>
 {
     let found = column(scope, c)?;
     Ok(Typed {
-        value: TypedExpr::Column(found.column, found.kind),
-        kind: kind_of(found.kind),
+        value: TypedExpr::Column(found.column, found.type_),
+        kind: kind_of(found.type_.kind),
+        scale: found.type_.scale,
     })
 }
 
@@ -57,9 +58,11 @@ pub fn signed(alloc: Global, sign: Sign, at: u32, a: Typed) -> Result<Typed, Typ
     if !is_number(a.kind) {
         return Err(refusal(TypeKind::TypesDiffer, at));
     }
+    let scale = a.scale;
     Ok(Typed {
         value: TypedExpr::Signed(sign, boxed(alloc, a)?),
         kind: Kind::Number,
+        scale,
     })
 }
 
@@ -73,6 +76,7 @@ pub fn negated(alloc: Global, at: u32, a: Typed) -> Result<Typed, TypeRefusal>
     Ok(Typed {
         value: TypedExpr::Not(boxed(alloc, a)?),
         kind: Kind::Truth,
+        scale: 0,
     })
 }
 
@@ -90,11 +94,16 @@ pub fn binary(
     if !takes(family, a.kind, b.kind) {
         return Err(refusal(TypeKind::TypesDiffer, at));
     }
+    if !fits_scale(op, a.scale, b.scale) {
+        return Err(refusal(TypeKind::ScaleTooLarge, at));
+    }
+    let scale = binary_scale(op, a.scale, b.scale);
     let left = boxed(alloc, a)?;
     let right = boxed(alloc, b)?;
     Ok(Typed {
         value: TypedExpr::Binary(op, left, right),
         kind: makes(family),
+        scale,
     })
 }
 
@@ -117,10 +126,12 @@ pub fn divided(alloc: Global, at: u32, a: Typed, by: Divisor) -> Result<Typed, T
     if !is_number(a.kind) {
         return Err(refusal(TypeKind::TypesDiffer, at));
     }
+    let scale = a.scale;
     let of = boxed(alloc, a)?;
     Ok(Typed {
         value: TypedExpr::Divide(of, sign_or_plus(by.sign), by.value),
         kind: Kind::Number,
+        scale,
     })
 }
 
@@ -144,6 +155,7 @@ pub fn between(
     Ok(Typed {
         value: TypedExpr::Between(polarity, of, low, high),
         kind: Kind::Truth,
+        scale: 0,
     })
 }
 
@@ -181,6 +193,39 @@ pub fn among(
     Ok(Typed {
         value: TypedExpr::In(polarity, of, values),
         kind: Kind::Truth,
+        scale: 0,
+    })
+}
+
+#[tactic(auto, unfolding(crate::specs::Expressions::null_test))]
+pub fn null_test(alloc: Global, polarity: Polarity, at: u32, a: Typed) -> Result<Typed, TypeRefusal>
+    ensures { Gives (spec.null_test polarity at a) result }
+{
+    if is_truth(a.kind) {
+        return Err(refusal(TypeKind::TypesDiffer, at));
+    }
+    Ok(Typed {
+        value: TypedExpr::IsNull(polarity, boxed(alloc, a)?),
+        kind: Kind::Truth,
+        scale: 0,
+    })
+}
+
+#[tactic(auto, unfolding(crate::specs::Expressions::choice))]
+pub fn choice(alloc: Global, at: u32, a: Typed, ts: Listing<Typed>) -> Result<Typed, TypeRefusal>
+    ensures { Gives (spec.choice at a ts) result }
+{
+    if !(compare(a.kind, a.kind) && all_compare(a.kind, ts.as_slice())) {
+        return Err(refusal(TypeKind::TypesDiffer, at));
+    }
+    let kind = a.kind;
+    let scale = greatest(a.scale, ts.as_slice());
+    let first = boxed(alloc, a)?;
+    let others = values(alloc, ts)?;
+    Ok(Typed {
+        value: TypedExpr::Coalesce(first, others),
+        kind,
+        scale,
     })
 }
 
@@ -188,6 +233,7 @@ fn aggregate_kind(of: Written) -> AggregateKind
     ensures { result ≡ spec.aggregate_kind of }
 {
     match of {
+        Written::Count => AggregateKind::Count,
         Written::Sum => AggregateKind::Sum,
         Written::Min => AggregateKind::Min,
         Written::Max => AggregateKind::Max,
@@ -199,7 +245,7 @@ fn kind_folded(of: Written, a: Kind) -> Kind
     ensures { result ≡ spec.kind_folded of a }
 {
     match of {
-        Written::Sum | Written::Avg => Kind::Number,
+        Written::Count | Written::Sum | Written::Avg => Kind::Number,
         _ => a,
     }
 }
@@ -214,8 +260,13 @@ fn is_row(level: Level) -> bool
 }
 
 /// One more aggregate. A list of 2^32 has no room for it.
-fn met(aggregates: &mut Listing<Aggregate>, kind: Kind, a: Aggregate) -> Result<Typed, TypeRefusal>
-    ensures { Collects (spec.met kind a aggregates.old) result aggregates.new }
+fn met(
+    aggregates: &mut Listing<Aggregate>,
+    kind: Kind,
+    scale: u32,
+    a: Aggregate,
+) -> Result<Typed, TypeRefusal>
+    ensures { Collects (spec.met kind scale a aggregates.old) result aggregates.new }
 {
     let place = aggregates.len();
     if place >= 4294967296 {
@@ -223,8 +274,9 @@ fn met(aggregates: &mut Listing<Aggregate>, kind: Kind, a: Aggregate) -> Result<
     }
     aggregates.push(a)?;
     Ok(Typed {
-        value: TypedExpr::Aggregate(place as u32),
+        value: TypedExpr::Aggregate(place as u32, scale),
         kind,
+        scale,
     })
 }
 
@@ -243,7 +295,7 @@ pub fn counted(
         kind: AggregateKind::Count,
         argument: None,
     };
-    met(aggregates, Kind::Number, counting)
+    met(aggregates, Kind::Number, 0, counting)
 }
 
 #[tactic(auto, unfolding(crate::specs::Expressions::folded))]
@@ -263,9 +315,10 @@ pub fn folded(
         return Err(refusal(TypeKind::NestedAggregate, at));
     }
     let kind = kind_folded(of, a.kind);
+    let scale = scale_folded(of, a.scale);
     let folding = Aggregate {
         kind: aggregate_kind(of),
         argument: Some(a.into_value()),
     };
-    met(aggregates, kind, folding)
+    met(aggregates, kind, scale, folding)
 }

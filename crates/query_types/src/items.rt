@@ -7,7 +7,7 @@ ghost use Rattle.query_types.specs.Items as spec;
 ghost use Rattle.query_types.specs.Outcomes.{Gives, Collects};
 
 use crate::expr::{column_alone, expr};
-use crate::kinds::{Role, is_truth};
+use crate::kinds::is_truth;
 use crate::names::standing;
 use crate::outcome::refusal;
 use crate::refusal::{TypeKind, TypeRefusal};
@@ -18,7 +18,7 @@ use io_edge::Name;
 use query_trees::{Alias, ColumnName, SelectItem, SelectList};
 use sql_read::Listing;
 use std::alloc::Global;
-use typed_trees::{Aggregate, TypedExpr};
+use typed_trees::{Aggregate, Role, TypedExpr};
 
 /// The items so far, and their output names.
 pub struct Shown {
@@ -86,11 +86,11 @@ fn star_item(
     }
     let found = Found {
         column: f.column,
-        kind: f.kind,
+        type_: f.type_,
     };
     standing(scope, at, found)?;
     let name = f.name.copied(alloc)?;
-    with_item(shown, TypedExpr::Column(f.column, f.kind), name)
+    with_item(shown, TypedExpr::Column(f.column, f.type_), name)
 }
 
 fn star_items(

@@ -13,11 +13,11 @@ mod ordering;
 mod outcome;
 mod query;
 mod refusal;
+mod scales;
 mod scope;
 mod sources;
 mod stars;
 mod typing;
 
-pub use kinds::Kind;
 pub use query::type_query;
 pub use refusal::{TypeKind, TypeRefusal};

@@ -9,7 +9,7 @@ use crate::refusal::{TypeKind, TypeRefusal};
 use crate::scope::{Called, Found, Level, Scope};
 use query_trees::ColumnName;
 use sql_read::{ColumnDef, TableDef};
-use typed_trees::ColumnRef;
+use typed_trees::{ColumnRef, ColumnType, same_column};
 
 /// The columns of the table at this place of the catalog.
 pub fn columns_of(defs: &[TableDef], table: u32) -> &[ColumnDef]
@@ -20,6 +20,17 @@ pub fn columns_of(defs: &[TableDef], table: u32) -> &[ColumnDef]
     match defs.get(table as usize) {
         None => &[],
         Some(t) => t.columns.as_slice(),
+    }
+}
+
+/// The type that a definition gives its column.
+pub fn type_of_column(c: &ColumnDef) -> ColumnType
+    ensures { result ≡ spec.type_of_column c.now }
+{
+    ColumnType {
+        kind: c.kind,
+        width: c.width,
+        scale: c.scale,
     }
 }
 
@@ -35,7 +46,7 @@ fn in_columns(columns: &[ColumnDef], source: u32, name: &str) -> Option<Found>
                     source,
                     column: i as u32,
                 },
-                kind: c.kind,
+                type_: type_of_column(c),
             });
         }
     }
@@ -106,12 +117,6 @@ pub fn resolved(defs: &[TableDef], tables: &[Called], c: &ColumnName) -> Result<
         None => bare(defs, tables, c.name.text(), c.name_at),
         Some(table) => qualified(defs, tables, c, table.text()),
     }
-}
-
-pub fn same_column(a: ColumnRef, b: ColumnRef) -> bool
-    ensures { result ≡ spec.same_column a b }
-{
-    a.source == b.source && a.column == b.column
 }
 
 fn is_group_column(groups: &[ColumnRef], a: ColumnRef) -> bool

@@ -32,6 +32,8 @@ pub enum TypeKind {
     TooManyItems,
     /// The fifth group column, or the ninth key of ORDER BY.
     TooManyKeys,
+    /// A product of which more than 36 digits stand after the point.
+    ScaleTooLarge,
 }
 
 /// Why a query has no types.

@@ -1,8 +1,8 @@
 //! What names are looked up in.
 
 use io_edge::Name;
-use sql_read::{ColumnKind, TableDef};
-use typed_trees::ColumnRef;
+use sql_read::TableDef;
+use typed_trees::{ColumnRef, ColumnType};
 
 /// A table of FROM, and the name by which it is called.
 #[derive(Drop)]
@@ -12,11 +12,11 @@ pub struct Called {
     pub table: u32,
 }
 
-/// A column that a name means, and the kind of its values.
+/// A column that a name means, and its type.
 #[derive(Clone, Copy)]
 pub struct Found {
     pub column: ColumnRef,
-    pub kind: ColumnKind,
+    pub type_: ColumnType,
 }
 
 /// What an expression is evaluated on.

@@ -7,7 +7,7 @@ ghost use Rattle.query_types.specs.Names.{IsNarrow};
 ghost use Rattle.query_types.specs.Sources as spec;
 ghost use Rattle.query_types.specs.Outcomes.{Gives};
 
-use crate::kinds::{kind_of, same_kind};
+use crate::kinds::{is_number, same_kind};
 use crate::names::{columns_of, resolved};
 use crate::outcome::refusal;
 use crate::refusal::{TypeKind, TypeRefusal};
@@ -16,7 +16,7 @@ use io_edge::Name;
 use query_trees::{ColumnName, Join, JoinKind, Source, TableName};
 use sql_read::{KeyDef, Listing, TableDef};
 use std::alloc::Global;
-use typed_trees::{ColumnRef, PlanSource};
+use typed_trees::{ColumnRef, ColumnType, PlanSource, kind_of};
 
 /// The tables of FROM: their names, and what they are.
 pub struct Tables {
@@ -162,6 +162,14 @@ fn is_key(defs: &[TableDef], table: u32, name: &str) -> bool
     is_key_name(keys_of(defs, table), name)
 }
 
+/// Whether two columns have one kind and, where they are numbers, one scale.
+fn same_types(a: ColumnType, b: ColumnType) -> bool
+    ensures { result ≡ spec.same_types a b }
+{
+    same_kind(kind_of(a.kind), kind_of(b.kind))
+        && (!is_number(kind_of(a.kind)) || a.scale == b.scale)
+}
+
 #[tactic(auto, unfolding(crate::specs::Sources::linked))]
 fn linked(
     defs: &[TableDef],
@@ -173,7 +181,7 @@ fn linked(
 ) -> Result<Option<(ColumnRef, u32)>, TypeRefusal>
     ensures { Gives (spec.linked defs.now table at own name.now left) result }
 {
-    if !same_kind(kind_of(own.kind), kind_of(left.kind)) {
+    if !same_types(own.type_, left.type_) {
         return Err(refusal(TypeKind::TypesDiffer, at));
     }
     if !is_key(defs, table, name.name.text()) {

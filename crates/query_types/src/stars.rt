@@ -5,19 +5,19 @@ ghost use Rattle.query_types.specs.Names.{IsNarrow};
 ghost use Rattle.query_types.specs.Grouping as spec;
 ghost use Rattle.query_types.specs.Outcomes.{Gives};
 
-use crate::names::columns_of;
+use crate::names::{columns_of, type_of_column};
 use crate::refusal::TypeRefusal;
 use crate::scope::Called;
 use io_edge::Name;
-use sql_read::{ColumnDef, ColumnKind, Listing, TableDef};
+use sql_read::{ColumnDef, Listing, TableDef};
 use std::alloc::Global;
-use typed_trees::ColumnRef;
+use typed_trees::{ColumnRef, ColumnType};
 
 /// A column that `*` stands for.
 #[derive(Drop)]
 pub struct Starred {
     pub column: ColumnRef,
-    pub kind: ColumnKind,
+    pub type_: ColumnType,
     pub name: Name,
 }
 
@@ -40,7 +40,7 @@ fn add_columns(
         let name = c.name.copied(alloc)?;
         all.push(Starred {
             column,
-            kind: c.kind,
+            type_: type_of_column(c),
             name,
         })?;
     }

@@ -1,22 +1,26 @@
-//! An expression with its kind.
+//! An expression with its type.
 
 ghost use Rattle.std.specs.Prelude.{◌≡◌, IfOk};
 
-use crate::kinds::Kind;
 use sqlite_items::Boxed;
 use std::alloc::{AllocError, Global};
-use typed_trees::TypedExpr;
+use typed_trees::{Kind, TypedExpr};
 
-/// A typed expression, and the kind of its values.
+/// A typed expression, the kind of its values, and the scale of its numbers: 0 where they are none.
 pub struct Typed {
     pub value: TypedExpr,
     pub kind: Kind,
+    pub scale: u32,
 }
 
 // Written out, so that letting go of one is a call, in place of a match over each form.
 impl Drop for Typed {
     fn drop(self) {
-        let Typed { value: _, kind: _ } = self;
+        let Typed {
+            value: _,
+            kind: _,
+            scale: _,
+        } = self;
     }
 }
 
@@ -24,7 +28,11 @@ impl Typed {
     pub fn into_value(self) -> TypedExpr
         ensures { result ≡ self.value }
     {
-        let Typed { value, kind: _ } = self;
+        let Typed {
+            value,
+            kind: _,
+            scale: _,
+        } = self;
         value
     }
 }

@@ -1,10 +1,10 @@
 use Rattle.std.proofs.Common.{sym, ◌∙◌, arith, rules}
 use Rattle.std.proofs.lemmas.Grind.{common_steps}
-use Rattle.query_types.proofs.Typers.{typed-Number, typed-Text, typed-Date, typed-Column, typed-CountAll, typed-Aggregate, typed-Enclosed, typed-Signed, typed-Not, typed-Binary, typed-Divide, typed-Between, typed-In}
+use Rattle.query_types.proofs.Typers.{typed-Number, typed-Text, typed-Date, typed-Column, typed-CountAll, typed-Aggregate, typed-Enclosed, typed-Signed, typed-Not, typed-Binary, typed-Divide, typed-Between, typed-In, typed-IsNull, typed-Coalesce}
 use Rattle.query_types.proofs.expr.+typing.Goals as goal
 
 pub expr-returns-in-Number : goal.expr-returns-in-Number
-expr-returns-in-Number t c = rw (typed-Number c.args.e.now c.in-Number.n (sym c.get.ensures ∙ c.in-Number.is)) (first_of (search rules, grind (arith, common_steps)))
+expr-returns-in-Number t c = rw (typed-Number c.args.e.now c.in-Number.n c.in-Number.scale (sym c.get.ensures ∙ c.in-Number.is)) (first_of (search rules, grind (arith, common_steps)))
 
 pub expr-returns-in-Text : goal.expr-returns-in-Text
 expr-returns-in-Text t c = rw (typed-Text c.args.e.now c.in-Text.text (sym c.get.ensures ∙ c.in-Text.is)) (first_of (search rules, grind (arith, common_steps)))
@@ -74,3 +74,18 @@ expr-returns-in_err-ts-in-In t c = rw (typed-In c.args.e.now c.in-In.polarity c.
 
 pub expr-returns-in_ok-ts-in-In : goal.expr-returns-in_ok-ts-in-In
 expr-returns-in_ok-ts-in-In t c = rw (typed-In c.args.e.now c.in-In.polarity c.in-In.at c.in-In.x c.in-In.ys (sym c.get.ensures ∙ c.in-In.is)) (first_of (search rules, grind (arith, common_steps)))
+
+pub expr-returns-in_err-a-in-IsNull : goal.expr-returns-in_err-a-in-IsNull
+expr-returns-in_err-a-in-IsNull t c = rw (typed-IsNull c.args.e.now c.in-IsNull.polarity c.in-IsNull.at c.in-IsNull.x (sym c.get.ensures ∙ c.in-IsNull.is)) (first_of (search rules, grind (arith, common_steps)))
+
+pub expr-returns-in_ok-a-in-IsNull : goal.expr-returns-in_ok-a-in-IsNull
+expr-returns-in_ok-a-in-IsNull t c = rw (typed-IsNull c.args.e.now c.in-IsNull.polarity c.in-IsNull.at c.in-IsNull.x (sym c.get.ensures ∙ c.in-IsNull.is)) (first_of (search rules, grind (arith, common_steps)))
+
+pub expr-returns-in_err-a-in-Coalesce : goal.expr-returns-in_err-a-in-Coalesce
+expr-returns-in_err-a-in-Coalesce t c = rw (typed-Coalesce c.args.e.now c.in-Coalesce.x c.in-Coalesce.ys (sym c.get.ensures ∙ c.in-Coalesce.is)) (first_of (search rules, grind (arith, common_steps)))
+
+pub expr-returns-in_err-ts-in-Coalesce : goal.expr-returns-in_err-ts-in-Coalesce
+expr-returns-in_err-ts-in-Coalesce t c = rw (typed-Coalesce c.args.e.now c.in-Coalesce.x c.in-Coalesce.ys (sym c.get.ensures ∙ c.in-Coalesce.is)) (first_of (search rules, grind (arith, common_steps)))
+
+pub expr-returns-in_ok-ts-in-Coalesce : goal.expr-returns-in_ok-ts-in-Coalesce
+expr-returns-in_ok-ts-in-Coalesce t c = rw (typed-Coalesce c.args.e.now c.in-Coalesce.x c.in-Coalesce.ys (sym c.get.ensures ∙ c.in-Coalesce.is)) (first_of (search rules, grind (arith, common_steps)))
