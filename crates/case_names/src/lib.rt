@@ -21,6 +21,7 @@ pub fn column_kind_name(kind: ColumnKind) -> &'static str {
         ColumnKind::Integer => "integer",
         ColumnKind::Date => "date",
         ColumnKind::Text => "text",
+        ColumnKind::Decimal => "decimal",
     }
 }
 

@@ -50,6 +50,16 @@ fn show_date(out: &mut String, day: i32) -> Result<(), AllocError> {
     Ok(())
 }
 
+/// A number by its digits, with the count of those after its point behind: `15e-1`.
+fn show_scaled(out: &mut String, n: u128, scale: u32) -> Result<(), AllocError> {
+    show_count(out, n)?;
+    if scale > 0 {
+        out.push_str("e-")?;
+        show_count(out, scale as u128)?;
+    }
+    Ok(())
+}
+
 /// An expression with its first byte.
 #[cycle(expressions)]
 pub fn show_expression(out: &mut String, e: &Expr) -> Result<(), AllocError> {
@@ -61,7 +71,7 @@ pub fn show_expression(out: &mut String, e: &Expr) -> Result<(), AllocError> {
 #[cycle(expressions)]
 fn show_form(out: &mut String, form: &Form) -> Result<(), AllocError> {
     match form {
-        Form::Number(n) => show_count(out, *n),
+        Form::Number(n, scale) => show_scaled(out, *n, *scale),
         Form::Text(text) => show_text(out, text.text().as_bytes()),
         Form::Date(day) => show_date(out, *day),
         Form::Column(c) => show_column(out, c),
@@ -85,23 +95,41 @@ fn show_operation(out: &mut String, form: &Form) -> Result<(), AllocError> {
             show_operand(out, y)?;
         }
         Form::Divide(at, x, by) => show_quotient(out, *at, x, by)?,
+        Form::Coalesce(x, others) => {
+            show_one(out, "COALESCE", x)?;
+            show_operands(out, others.as_slice())?;
+        }
+        _ => show_test(out, form)?,
+    }
+    out.push(')')?;
+    Ok(())
+}
+
+/// BETWEEN, IN or IS NULL.
+#[cycle(expressions)]
+fn show_test(out: &mut String, form: &Form) -> Result<(), AllocError> {
+    match form {
         Form::Between(polarity, at, x, low, high) => {
             out.push_str(polarity_name(*polarity))?;
             out.push_str("BETWEEN")?;
             show_first(out, *at, x)?;
             show_operand(out, low)?;
-            show_operand(out, high)?;
+            show_operand(out, high)
         }
         Form::In(polarity, at, x, among) => {
             out.push_str(polarity_name(*polarity))?;
             out.push_str("IN")?;
             show_first(out, *at, x)?;
-            show_operands(out, among.as_slice())?;
+            show_operands(out, among.as_slice())
         }
-        _ => {}
+        Form::IsNull(polarity, at, x) => {
+            out.push_str("IS ")?;
+            out.push_str(polarity_name(*polarity))?;
+            out.push_str("NULL")?;
+            show_first(out, *at, x)
+        }
+        _ => Ok(()),
     }
-    out.push(')')?;
-    Ok(())
 }
 
 #[cycle(expressions)]

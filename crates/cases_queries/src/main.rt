@@ -6,7 +6,7 @@
 //! - a line that is empty or begins with `#` is no case.
 //!
 //! A tree is `22:a` or `22:(- @24 22:a 26:b)`: the first byte of an expression, what it is, the byte of its operator behind `@`,
-//! and its operands.
+//! and its operands. A number is `15`, or `15e-1` where one of its digits stands after a point.
 #![tactic(auto)]
 
 mod answers;

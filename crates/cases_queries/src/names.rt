@@ -4,6 +4,7 @@ use query_trees::{AggregateKind, Direction};
 
 pub fn aggregate_name(kind: AggregateKind) -> &'static str {
     match kind {
+        AggregateKind::Count => "COUNT",
         AggregateKind::Sum => "SUM",
         AggregateKind::Min => "MIN",
         AggregateKind::Max => "MAX",

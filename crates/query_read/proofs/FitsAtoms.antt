@@ -24,6 +24,8 @@ use Rattle.query_trees.specs.declared.expr.ColumnName.{ColumnName}
 use Rattle.query_trees.specs.declared.expr.Divisor.{Divisor}
 use Rattle.query_trees.specs.declared.expr.Expr.{Expr}
 use Rattle.query_trees.specs.declared.expr.Form.TheVariants as f
+use Rattle.query_trees.specs.declared.expr.Polarity.{Polarity}
+use Rattle.query_trees.specs.declared.expr.Polarity.TheVariants.{Plain, Negated}
 use Rattle.query_read.specs.Asked.{Asked}
 use Rattle.query_read.specs.Days.{day_at, span_at, moved, no_date, no_span, leaves}
 use Rattle.query_trees.specs.Nodes.{node}
@@ -210,6 +212,39 @@ unfolding r.over
 fits_over stop a = after k.Slash (λ t. Both g.divisor (λ v. nothing (divided t.at a v))) _ stop
     (λ t. good_map g.divisor r.divisor stop (fits_divisor stop) (divided t.at a))
     (λ t. some_both g.divisor (λ v. nothing (divided t.at a v)) some_divisor (λ v. some_nothing (divided t.at a v)))
+
+-- ---- IS NULL
+
+abbrev denied : Phrase Token Polarity
+denied = word k.Not >> nothing Negated
+
+fits_polarity : FitsQ g.polarity (is k.Not) r.polarity
+unfolding r.polarity
+fits_polarity = good_either denied (nothing Plain) _ _ (is k.Not) (is k.Not)
+    (word_map k.Not (λ _. Negated) (is k.Not))
+    (good_pure Plain (is k.Not))
+    (starts_word k.Not (λ _. nothing Negated))
+    (quiet_nothing (is k.Not) Plain)
+
+some_polarity : Some g.polarity
+some_polarity = record { text = []; value = Plain; reads = inr (refl, refl) }
+
+abbrev of_null : Expr → Token → Polarity → Phrase Token Expr
+of_null a t p = word k.Null >> nothing (node a.at (f.IsNull p t.at a))
+
+some_of_null : (a : Expr) (t : Token) (p : Polarity) → Some (of_null a t p)
+some_of_null a t p = some_map k.Null (λ _. node a.at (f.IsNull p t.at a))
+
+fits_null_test : (stop : Token → Bool) (a : Expr) (t : Token) → FitsQ (Both g.polarity (of_null a t)) stop (r.polarity >>= (λ p. expect k.Null >>= (λ _. pure (node a.at (f.IsNull p t.at a)))))
+unfolding same_kind
+fits_null_test stop a t = good_bind g.polarity (of_null a t) r.polarity _ (is k.Not) stop fits_polarity
+    (λ p. word_map k.Null (λ _. node a.at (f.IsNull p t.at a)) stop)
+    (λ p ys rest b l e. avoids_word (λ x. same_kind x k.Not) k.Null (λ _. nothing (node a.at (f.IsNull p t.at a))) refl ys rest b l)
+    (some_of_null a t)
+
+pub fits_nullity : (stop : Token → Bool) (a : Expr) → FitsQ (g.nullity a) stop (r.nullity a)
+unfolding r.nullity
+fits_nullity stop a = after k.Is (λ t. Both g.polarity (of_null a t)) _ stop (fits_null_test stop a) (λ t. some_both g.polarity (of_null a t) some_polarity (some_of_null a t))
 
 -- ---- an operator and its right side
 

@@ -421,7 +421,7 @@ module _ (m : Asked) (text : Bytes) (n : ℕ) where
       (word_map k.Star (λ t. select.All t.at) (of list_stops))
       (good_map (e.series (g.item text E)) (y.series (r.item text q)) (of list_stops) (fits_series (g.item text E) (r.item text q) item_stops refl fits_item some_item) (λ xs. select.Items xs))
       (starts_word k.Star _)
-      (λ xs rest a l h. avoids_items (λ x. same_kind x k.Star) (avoids_expr m text n (λ x. same_kind x k.Star) refl refl refl refl refl refl refl refl refl refl refl refl refl) xs rest a l)
+      (λ xs rest a l h. avoids_items (λ x. same_kind x k.Star) (avoids_expr m text n (λ x. same_kind x k.Star) refl) xs rest a l)
 
   some_list : Some (g.list text E)
   some_list = let s = some_map k.Star (λ t. select.All t.at) in record { text = s.text; value = s.value; reads = inl s.reads }
@@ -596,6 +596,6 @@ module _ (m : Asked) (text : Bytes) (n : ℕ) where
   fits_query = after k.Select after_select _ every
       (λ s. good_bind g.distinct (after_distinct s) r.distinct _ (is k.Distinct) every fits_distinct (fits_after_distinct s)
       (λ x ys rest b c e. avoids_both (is k.Distinct) (g.list text E) (after_list s x)
-      (avoids_list (λ z. same_kind z k.Distinct) refl (avoids_expr m text n (λ z. same_kind z k.Distinct) refl refl refl refl refl refl refl refl refl refl refl refl refl)) ys rest b c)
+      (avoids_list (λ z. same_kind z k.Distinct) refl (avoids_expr m text n (λ z. same_kind z k.Distinct) refl)) ys rest b c)
       (some_after_distinct s))
       some_after_select

@@ -1,9 +1,10 @@
 -- Each parser of expressions is good for its rule of the grammar.
-use Rattle.std.proofs.Common.{◌≡◌, ℕ, zero, suc, Bool, true, false, ◌||◌, List, [], ◌∷◌, length, Err, refl, ap, ◌∙◌, inl, inr, ⊎_elim}
+use Rattle.std.proofs.Common.{◌≡◌, ℕ, zero, suc, Bool, true, false, ◌||◌, List, [], ◌∷◌, length, Err, refl, ◌∙◌, inl, inr, ⊎_elim}
+use Rattle.std.specs.Prelude.{Option}
+use Rattle.std.specs.Prelude as Opt
 use Rattle.phrases.specs.declared.refusal.ReadError.TheVariants.{Refused}
-use Rattle.phrases.specs.Phrases.{Phrase, Both, nothing, none, ◌<|>◌, ◌>>◌, Repeated}
-use Rattle.phrases.specs.Parsers as p
-use Rattle.phrases.specs.Parsers.{pure, refuse, either, next, repeat, ◌>>=◌}
+use Rattle.phrases.specs.Phrases.{Phrase, Both, nothing, none, token, ◌<|>◌, ◌>>◌, Repeated}
+use Rattle.phrases.specs.Parsers.{pure, refuse, either, ◌>>=◌}
 use Rattle.phrases.proofs.Good.{Some, free, good_pure, good_bind, good_either, good_refuse, good_same, weaken, next-weaker}
 use Rattle.phrases.proofs.Repeats.{Turns}
 use Rattle.phrases.proofs.Shapes.{some_both, some_nothing, some_repeated, or_left, or_right, good_map, good_list}
@@ -22,17 +23,18 @@ use Rattle.query_trees.specs.declared.expr.Polarity.TheVariants.{Plain, Negated}
 use Rattle.query_trees.specs.declared.expr.Expr.{Expr}
 use Rattle.query_trees.specs.declared.expr.Form.TheVariants as f
 use Rattle.query_read.specs.declared.enclosing.Enclosure.{Enclosure}
+use Rattle.query_read.specs.declared.enclosing.Choices.{Choices}
 use Rattle.query_read.specs.Asked.{Asked}
 use Rattle.query_read.specs.Literals.{content}
 use Rattle.query_read.specs.Classes.{multiplies, ranges}
 use Rattle.query_trees.specs.Nodes.{node}
-use Rattle.query_read.specs.Nodes.{signs, steps, compares, aggregates, of, sign_of, sum_op, comparison, aggregate_of, binary, divided, enclosure}
+use Rattle.query_read.specs.Nodes.{signs, steps, compares, numerals, aggregates, of, sign_of, sum_op, comparison, aggregate_of, numbered, binary, divided, counted_node, choice, chosen, enclosure}
 use Rattle.query_read.specs.Expressions as g
 use Rattle.query_read.specs.Expressions.{Depth}
 use Rattle.query_read.specs.ExpressionParsers as r
 use Rattle.query_read.specs.ExpressionParsers.{Parser, Under, expect, expect_of, opening}
-use Rattle.query_read.proofs.TokenKinds.{gap, FitsQ, signs_are, multiplies_are, ranges_are, compares_are, aggregates_are, some_word, word_map, some_map, after, after_of, starts_word, starts_in, starts_of, quiet_word, avoids_word, argument, some_argument, shut_opening}
-use Rattle.query_read.proofs.FitsAtoms.{column_stops, fits_series, series_stops, some_series, fits_column, starts_column, fits_date, starts_date, fits_over, turn_operation}
+use Rattle.query_read.proofs.TokenKinds.{gap, FitsQ, signs_are, multiplies_are, ranges_are, compares_are, numerals_are, aggregates_are, apart, first_apart, others_apart, some_of, fits_of, some_word, word_map, some_map, after, after_of, starts_word, starts_in, starts_of, quiet_word, avoids_word, argument, some_argument, shut_opening}
+use Rattle.query_read.proofs.FitsAtoms.{column_stops, fits_series, series_stops, some_series, fits_column, starts_column, fits_date, starts_date, fits_over, fits_nullity, turn_operation}
 
 -- ---- what goes on with a rule
 
@@ -47,7 +49,7 @@ sum_stops x = signs x || term_stops x
 
 -- what follows the first sum of a predicate
 abbrev pub tests : Kind → Bool
-tests x = compares x || (same_kind x k.Not || ranges x)
+tests x = compares x || (same_kind x k.Not || (ranges x || same_kind x k.Is))
 
 abbrev pub pred_stops : Kind → Bool
 pred_stops x = tests x || sum_stops x
@@ -68,8 +70,9 @@ pub record Opens {A : Type 0} (L : Phrase Token A) (q : Parser A) : Type 0 where
 
 pub record Level (d : Depth) (u : Under) : Type 0 where
   pub parens : Opens d.parens u.parens
-  pub star : Opens d.star u.star
+  pub counted : Opens d.counted u.counted
   pub list : Opens d.list u.list
+  pub choices : Opens d.choices u.choices
   pub nots : FitsQ d.nots (of pred_stops) u.nots
   pub nots_start : Starts (is k.Not) d.nots
   pub signed : FitsQ d.signed (of atom_stops) u.signed
@@ -80,10 +83,10 @@ stronger L q stop good = weaken L q free stop good (λ t h. refl)
 
 fits_number : FitsQ g.number (of atom_stops) r.number
 unfolding r.number
-fits_number = word_map k.Digits (λ t. node t.at (f.Number t.value)) (of atom_stops)
+fits_number = good_map (token (of numerals)) (expect_of numerals) (of atom_stops) (fits_of numerals (of atom_stops)) numbered
 
-pub some_number : Some g.number
-some_number = some_map k.Digits (λ t. node t.at (f.Number t.value))
+some_number : Some g.number
+some_number = some_both (token (of numerals)) (λ t. nothing (numbered t)) (some_of numerals k.Digits refl) (λ t. some_nothing (numbered t))
 
 fits_literal : (text : Bytes) → FitsQ (g.literal text) (of atom_stops) (r.literal text)
 unfolding r.literal
@@ -100,18 +103,26 @@ starts_reference text = starts_both (is k.Name) (g.column text) (λ c. nothing (
 
 module _ (m : Asked) (text : Bytes) (d : Depth) (u : Under) (v : Level d u) where
   -- COUNT
-  abbrev counted : Token → Phrase Token Expr
-  counted t = (d.star >> nothing (node t.at f.CountAll)) <|> g.gap (node t.at f.CountAll)
+  abbrev over_counted : Token → Phrase Token Expr
+  over_counted t = Both (d.counted <|> g.gap Opt.None) (λ x. nothing (counted_node t x))
 
-  fits_counted : (t : Token) → FitsQ (counted t) free (u.star >>= (λ _. pure (node t.at f.CountAll)))
-  fits_counted t = argument (d.star >> nothing (node t.at f.CountAll)) free (u.star >>= (λ _. pure (node t.at f.CountAll))) (node t.at f.CountAll)
-      (good_map d.star u.star free v.star.good (λ _. node t.at f.CountAll))
-      (λ x s h. ap (λ y. p.and_then y (λ _. pure (node t.at f.CountAll))) (v.star.shut x s h))
-
-  fits_count : FitsQ (g.count d) (of atom_stops) (r.count u.star)
+  fits_count : FitsQ (g.count d) (of atom_stops) (r.count u)
   unfolding r.count
-  fits_count = stronger (g.count d) (expect k.Count >>= (λ t. u.star >>= (λ _. pure (node t.at f.CountAll)))) (of atom_stops)
-      (after k.Count counted _ free fits_counted (λ t. some_argument (d.star >> nothing (node t.at f.CountAll)) (node t.at f.CountAll)))
+  fits_count = stronger (g.count d) (expect k.Count >>= (λ t. u.counted >>= (λ x. pure (counted_node t x)))) (of atom_stops)
+      (after k.Count over_counted _ free
+      (λ t. good_map (d.counted <|> g.gap Opt.None) u.counted free (argument d.counted free u.counted Opt.None v.counted.good v.counted.shut) (counted_node t))
+      (λ t. some_both (d.counted <|> g.gap Opt.None) _ (some_argument d.counted Opt.None) (λ x. some_nothing (counted_node t x))))
+
+  -- COALESCE
+  abbrev over_choices : Token → Phrase Token Expr
+  over_choices t = Both (d.choices <|> g.gap g.no_choices) (λ x. nothing (chosen t x))
+
+  fits_coalesce : FitsQ (g.coalesce d) (of atom_stops) (r.coalesce u)
+  unfolding r.coalesce
+  fits_coalesce = stronger (g.coalesce d) (expect k.Coalesce >>= (λ t. u.choices >>= (λ x. pure (chosen t x)))) (of atom_stops)
+      (after k.Coalesce over_choices _ free
+      (λ t. good_map (d.choices <|> g.gap g.no_choices) u.choices free (argument d.choices free u.choices g.no_choices v.choices.good v.choices.shut) (chosen t))
+      (λ t. some_both (d.choices <|> g.gap g.no_choices) _ (some_argument d.choices g.no_choices) (λ x. some_nothing (chosen t x))))
 
   -- SUM, MIN, MAX, AVG
   abbrev over_parens : Token → Phrase Token Expr
@@ -133,12 +144,36 @@ module _ (m : Asked) (text : Bytes) (d : Depth) (u : Under) (v : Level d u) wher
   starts_enclosed : Starts (is k.OpenParen) (g.enclosed d)
   starts_enclosed = starts_both (is k.OpenParen) d.parens (λ x. nothing (node x.at (f.Enclosed x.value))) v.parens.starts
 
-  -- atoms, from the last alternative to the first
-  avoids_enclosed : (h : Kind → Bool) → h k.OpenParen ≡ false → Avoids (of h) (g.enclosed d)
-  avoids_enclosed h e = avoids_starts (is k.OpenParen) (of h) (g.enclosed d) (λ t y. of_kind h k.OpenParen t y ∙ e) starts_enclosed
+  -- atoms, from the last alternative to the first, and what each begins with
+  abbrev kinds_8 : List Kind
+  kinds_8 = k.OpenParen ∷ []
+
+  abbrev kinds_7 : List Kind
+  kinds_7 = k.Coalesce ∷ kinds_8
+
+  abbrev kinds_6 : List Kind
+  kinds_6 = k.Sum ∷ k.Min ∷ k.Max ∷ k.Avg ∷ kinds_7
+
+  abbrev kinds_5 : List Kind
+  kinds_5 = k.Count ∷ kinds_6
+
+  abbrev kinds_4 : List Kind
+  kinds_4 = k.Name ∷ kinds_5
+
+  abbrev kinds_3 : List Kind
+  kinds_3 = k.Date ∷ kinds_4
+
+  abbrev kinds_2 : List Kind
+  kinds_2 = k.Quoted ∷ kinds_3
+
+  abbrev kinds_1 : List Kind
+  kinds_1 = k.Digits ∷ k.Fraction ∷ kinds_2
+
+  abbrev atoms_7 : Phrase Token Expr
+  atoms_7 = g.coalesce d <|> g.enclosed d
 
   abbrev atoms_6 : Phrase Token Expr
-  atoms_6 = g.aggregate d <|> g.enclosed d
+  atoms_6 = g.aggregate d <|> atoms_7
 
   abbrev atoms_5 : Phrase Token Expr
   atoms_5 = g.count d <|> atoms_6
@@ -152,77 +187,116 @@ module _ (m : Asked) (text : Bytes) (d : Depth) (u : Under) (v : Level d u) wher
   abbrev atoms_2 : Phrase Token Expr
   atoms_2 = g.literal text <|> atoms_3
 
-  avoids_6 : (h : Kind → Bool) → h k.Sum ≡ false → h k.Min ≡ false → h k.Max ≡ false → h k.Avg ≡ false → h k.OpenParen ≡ false → Avoids (of h) atoms_6
-  avoids_6 h a b c e i = avoids_either (of h) (g.aggregate d) (g.enclosed d)
-      (avoids_token (of aggregates) (of h) over_parens (λ t y. aggregates_are h false a b c e t.kind y))
-      (avoids_enclosed h i)
+  abbrev parser_7 : Parser Expr
+  parser_7 = either (is k.Coalesce) (r.coalesce u) (r.enclosed u)
 
-  avoids_5 : (h : Kind → Bool) → h k.Count ≡ false → h k.Sum ≡ false → h k.Min ≡ false → h k.Max ≡ false → h k.Avg ≡ false → h k.OpenParen ≡ false → Avoids (of h) atoms_5
-  avoids_5 h j a b c e i = avoids_either (of h) (g.count d) atoms_6 (avoids_word h k.Count counted j) (avoids_6 h a b c e i)
+  abbrev parser_6 : Parser Expr
+  parser_6 = either (of aggregates) (r.aggregate u) parser_7
 
-  avoids_reference : (h : Kind → Bool) → h k.Name ≡ false → Avoids (of h) (g.reference text)
-  avoids_reference h e = avoids_starts (is k.Name) (of h) (g.reference text) (λ t y. of_kind h k.Name t y ∙ e) (starts_reference text)
+  abbrev parser_5 : Parser Expr
+  parser_5 = either (is k.Count) (r.count u) parser_6
 
-  avoids_4 : (h : Kind → Bool) → h k.Name ≡ false → h k.Count ≡ false → h k.Sum ≡ false → h k.Min ≡ false → h k.Max ≡ false → h k.Avg ≡ false → h k.OpenParen ≡ false → Avoids (of h) atoms_4
-  avoids_4 h n j a b c e i = avoids_either (of h) (g.reference text) atoms_5 (avoids_reference h n) (avoids_5 h j a b c e i)
+  abbrev parser_4 : Parser Expr
+  parser_4 = either (is k.Name) (r.reference text) parser_5
 
-  avoids_date : (h : Kind → Bool) → h k.Date ≡ false → Avoids (of h) (g.date m text)
-  avoids_date h e = avoids_starts (is k.Date) (of h) (g.date m text) (λ t y. of_kind h k.Date t y ∙ e) (starts_date m text)
+  abbrev parser_3 : Parser Expr
+  parser_3 = either (is k.Date) (r.date m text) parser_4
 
-  avoids_3 : (h : Kind → Bool) → h k.Date ≡ false → h k.Name ≡ false → h k.Count ≡ false → h k.Sum ≡ false → h k.Min ≡ false → h k.Max ≡ false → h k.Avg ≡ false → h k.OpenParen ≡ false → Avoids (of h) atoms_3
-  avoids_3 h o n j a b c e i = avoids_either (of h) (g.date m text) atoms_4 (avoids_date h o) (avoids_4 h n j a b c e i)
+  abbrev parser_2 : Parser Expr
+  parser_2 = either (is k.Quoted) (r.literal text) parser_3
 
-  avoids_2 : (h : Kind → Bool) → h k.Quoted ≡ false → h k.Date ≡ false → h k.Name ≡ false → h k.Count ≡ false → h k.Sum ≡ false → h k.Min ≡ false → h k.Max ≡ false → h k.Avg ≡ false → h k.OpenParen ≡ false → Avoids (of h) atoms_2
-  avoids_2 h q o n j a b c e i = avoids_either (of h) (g.literal text) atoms_3 (avoids_word h k.Quoted (λ t. nothing (node t.at (f.Text (content text t)))) q) (avoids_3 h o n j a b c e i)
+  avoids_8 : (h : Kind → Bool) → apart kinds_8 h ≡ true → Avoids (of h) (g.enclosed d)
+  avoids_8 h e = avoids_starts (is k.OpenParen) (of h) (g.enclosed d) (λ t y. of_kind h k.OpenParen t y ∙ first_apart k.OpenParen [] h e) starts_enclosed
 
-  fits_6 : FitsQ atoms_6 (of atom_stops) (either (of aggregates) (r.aggregate u) (r.enclosed u))
-  fits_6 = good_either (g.aggregate d) (g.enclosed d) (r.aggregate u) (r.enclosed u) (of aggregates) (of atom_stops) fits_aggregate fits_enclosed
+  avoids_7 : (h : Kind → Bool) → apart kinds_7 h ≡ true → Avoids (of h) atoms_7
+  avoids_7 h e = avoids_either (of h) (g.coalesce d) (g.enclosed d) (avoids_word h k.Coalesce over_choices (first_apart k.Coalesce kinds_8 h e)) (avoids_8 h (others_apart k.Coalesce kinds_8 h e))
+
+  avoids_6 : (h : Kind → Bool) → apart kinds_6 h ≡ true → Avoids (of h) atoms_6
+  avoids_6 h e =
+      let after_sum = k.Min ∷ k.Max ∷ k.Avg ∷ kinds_7 in
+      let after_min = k.Max ∷ k.Avg ∷ kinds_7 in
+      let after_max = k.Avg ∷ kinds_7 in
+      let a = others_apart k.Sum after_sum h e in
+      let b = others_apart k.Min after_min h a in
+      let c = others_apart k.Max after_max h b in
+      avoids_either (of h) (g.aggregate d) atoms_7
+      (avoids_token (of aggregates) (of h) over_parens (λ t y. aggregates_are h false (first_apart k.Sum after_sum h e) (first_apart k.Min after_min h a) (first_apart k.Max after_max h b) (first_apart k.Avg kinds_7 h c) t.kind y))
+      (avoids_7 h (others_apart k.Avg kinds_7 h c))
+
+  avoids_5 : (h : Kind → Bool) → apart kinds_5 h ≡ true → Avoids (of h) atoms_5
+  avoids_5 h e = avoids_either (of h) (g.count d) atoms_6 (avoids_word h k.Count over_counted (first_apart k.Count kinds_6 h e)) (avoids_6 h (others_apart k.Count kinds_6 h e))
+
+  avoids_4 : (h : Kind → Bool) → apart kinds_4 h ≡ true → Avoids (of h) atoms_4
+  avoids_4 h e = avoids_either (of h) (g.reference text) atoms_5
+      (avoids_starts (is k.Name) (of h) (g.reference text) (λ t y. of_kind h k.Name t y ∙ first_apart k.Name kinds_5 h e) (starts_reference text))
+      (avoids_5 h (others_apart k.Name kinds_5 h e))
+
+  avoids_3 : (h : Kind → Bool) → apart kinds_3 h ≡ true → Avoids (of h) atoms_3
+  avoids_3 h e = avoids_either (of h) (g.date m text) atoms_4
+      (avoids_starts (is k.Date) (of h) (g.date m text) (λ t y. of_kind h k.Date t y ∙ first_apart k.Date kinds_4 h e) (starts_date m text))
+      (avoids_4 h (others_apart k.Date kinds_4 h e))
+
+  avoids_2 : (h : Kind → Bool) → apart kinds_2 h ≡ true → Avoids (of h) atoms_2
+  avoids_2 h e = avoids_either (of h) (g.literal text) atoms_3 (avoids_word h k.Quoted (λ t. nothing (node t.at (f.Text (content text t)))) (first_apart k.Quoted kinds_3 h e)) (avoids_3 h (others_apart k.Quoted kinds_3 h e))
+
+  avoids_atom : (h : Kind → Bool) → apart kinds_1 h ≡ true → Avoids (of h) (g.atom m text d)
+  avoids_atom h e =
+      let a = others_apart k.Digits (k.Fraction ∷ kinds_2) h e in
+      avoids_either (of h) g.number atoms_2
+      (avoids_token (of numerals) (of h) (λ t. nothing (numbered t)) (λ t y. numerals_are h false (first_apart k.Digits (k.Fraction ∷ kinds_2) h e) (first_apart k.Fraction kinds_2 h a) t.kind y))
+      (avoids_2 h (others_apart k.Fraction kinds_2 h a))
+
+  fits_7 : FitsQ atoms_7 (of atom_stops) parser_7
+  unfolding same_kind
+  fits_7 = good_either (g.coalesce d) (g.enclosed d) (r.coalesce u) (r.enclosed u) (is k.Coalesce) (of atom_stops) fits_coalesce fits_enclosed
+      (starts_word k.Coalesce over_choices)
+      (λ xs rest a l e. avoids_8 (λ x. same_kind x k.Coalesce) refl xs rest a l)
+
+  fits_6 : FitsQ atoms_6 (of atom_stops) parser_6
+  fits_6 = good_either (g.aggregate d) atoms_7 (r.aggregate u) parser_7 (of aggregates) (of atom_stops) fits_aggregate fits_7
       (starts_of aggregates over_parens)
-      (λ xs rest a l e. avoids_enclosed aggregates refl xs rest a l)
+      (λ xs rest a l e. avoids_7 aggregates refl xs rest a l)
 
-  fits_5 : FitsQ atoms_5 (of atom_stops) (either (is k.Count) (r.count u.star) (either (of aggregates) (r.aggregate u) (r.enclosed u)))
+  fits_5 : FitsQ atoms_5 (of atom_stops) parser_5
   unfolding same_kind
-  fits_5 = good_either (g.count d) atoms_6 (r.count u.star) (either (of aggregates) (r.aggregate u) (r.enclosed u)) (is k.Count) (of atom_stops) fits_count fits_6
-      (starts_word k.Count counted)
-      (λ xs rest a l e. avoids_6 (λ x. same_kind x k.Count) refl refl refl refl refl xs rest a l)
+  fits_5 = good_either (g.count d) atoms_6 (r.count u) parser_6 (is k.Count) (of atom_stops) fits_count fits_6
+      (starts_word k.Count over_counted)
+      (λ xs rest a l e. avoids_6 (λ x. same_kind x k.Count) refl xs rest a l)
 
-  fits_4 : FitsQ atoms_4 (of atom_stops) (either (is k.Name) (r.reference text) (either (is k.Count) (r.count u.star) (either (of aggregates) (r.aggregate u) (r.enclosed u))))
+  fits_4 : FitsQ atoms_4 (of atom_stops) parser_4
   unfolding same_kind
-  fits_4 = good_either (g.reference text) atoms_5 (r.reference text) (either (is k.Count) (r.count u.star) (either (of aggregates) (r.aggregate u) (r.enclosed u))) (is k.Name) (of atom_stops) (fits_reference text) fits_5
+  fits_4 = good_either (g.reference text) atoms_5 (r.reference text) parser_5 (is k.Name) (of atom_stops) (fits_reference text) fits_5
       (starts_reference text)
-      (λ xs rest a l e. avoids_5 (λ x. same_kind x k.Name) refl refl refl refl refl refl xs rest a l)
+      (λ xs rest a l e. avoids_5 (λ x. same_kind x k.Name) refl xs rest a l)
 
-  fits_3 : FitsQ atoms_3 (of atom_stops) (either (is k.Date) (r.date m text) (either (is k.Name) (r.reference text) (either (is k.Count) (r.count u.star) (either (of aggregates) (r.aggregate u) (r.enclosed u)))))
+  fits_3 : FitsQ atoms_3 (of atom_stops) parser_3
   unfolding same_kind
-  fits_3 = good_either (g.date m text) atoms_4 (r.date m text) (either (is k.Name) (r.reference text) (either (is k.Count) (r.count u.star) (either (of aggregates) (r.aggregate u) (r.enclosed u)))) (is k.Date) (of atom_stops)
+  fits_3 = good_either (g.date m text) atoms_4 (r.date m text) parser_4 (is k.Date) (of atom_stops)
       (weaken (g.date m text) (r.date m text) (of steps) (of atom_stops) (fits_date m text) (λ t h. or_left (steps t.kind) (column_stops t.kind) h)) fits_4
       (starts_date m text)
-      (λ xs rest a l e. avoids_4 (λ x. same_kind x k.Date) refl refl refl refl refl refl refl xs rest a l)
+      (λ xs rest a l e. avoids_4 (λ x. same_kind x k.Date) refl xs rest a l)
 
-  fits_2 : FitsQ atoms_2 (of atom_stops) (either (is k.Quoted) (r.literal text) (either (is k.Date) (r.date m text) (either (is k.Name) (r.reference text) (either (is k.Count) (r.count u.star) (either (of aggregates) (r.aggregate u) (r.enclosed u))))))
+  fits_2 : FitsQ atoms_2 (of atom_stops) parser_2
   unfolding same_kind
-  fits_2 = good_either (g.literal text) atoms_3 (r.literal text) (either (is k.Date) (r.date m text) (either (is k.Name) (r.reference text) (either (is k.Count) (r.count u.star) (either (of aggregates) (r.aggregate u) (r.enclosed u))))) (is k.Quoted) (of atom_stops) (fits_literal text) fits_3
+  fits_2 = good_either (g.literal text) atoms_3 (r.literal text) parser_3 (is k.Quoted) (of atom_stops) (fits_literal text) fits_3
       (starts_word k.Quoted (λ t. nothing (node t.at (f.Text (content text t)))))
-      (λ xs rest a l e. avoids_3 (λ x. same_kind x k.Quoted) refl refl refl refl refl refl refl refl xs rest a l)
+      (λ xs rest a l e. avoids_3 (λ x. same_kind x k.Quoted) refl xs rest a l)
 
   fits_atom : FitsQ (g.atom m text d) (of atom_stops) (r.atom m text u)
-  unfolding r.atom same_kind
-  fits_atom = good_either g.number atoms_2 r.number (either (is k.Quoted) (r.literal text) (either (is k.Date) (r.date m text) (either (is k.Name) (r.reference text) (either (is k.Count) (r.count u.star) (either (of aggregates) (r.aggregate u) (r.enclosed u)))))) (is k.Digits) (of atom_stops) fits_number fits_2
-      (starts_word k.Digits (λ t. nothing (node t.at (f.Number t.value))))
-      (λ xs rest a l e. avoids_2 (λ x. same_kind x k.Digits) refl refl refl refl refl refl refl refl refl xs rest a l)
+  unfolding r.atom
+  fits_atom = good_either g.number atoms_2 r.number parser_2 (of numerals) (of atom_stops) fits_number fits_2
+      (starts_of numerals (λ t. nothing (numbered t)))
+      (λ xs rest a l e. avoids_2 numerals refl xs rest a l)
 
   some_atom : Some (g.atom m text d)
   some_atom = let s = some_number in record { text = s.text; value = s.value; reads = inl s.reads }
-
-  avoids_atom : (h : Kind → Bool) → h k.Digits ≡ false → h k.Quoted ≡ false → h k.Date ≡ false → h k.Name ≡ false → h k.Count ≡ false → h k.Sum ≡ false → h k.Min ≡ false → h k.Max ≡ false → h k.Avg ≡ false → h k.OpenParen ≡ false → Avoids (of h) (g.atom m text d)
-  avoids_atom h y q o n j a b c e i = avoids_either (of h) g.number atoms_2 (avoids_word h k.Digits (λ t. nothing (node t.at (f.Number t.value))) y) (avoids_2 h q o n j a b c e i)
 
   -- ---- factors, terms and sums
 
   fits_factor : FitsQ (g.factor m text d) (of atom_stops) (r.factor m text u)
   unfolding r.factor same_kind
   fits_factor = good_either d.signed (g.atom m text d) u.signed (r.atom m text u) (of signs) (of atom_stops) v.signed fits_atom v.signed_start
-      (λ xs rest a l e. avoids_atom signs refl refl refl refl refl refl refl refl refl refl xs rest a l)
+      (λ xs rest a l e. avoids_atom signs refl xs rest a l)
 
   some_factor : Some (g.factor m text d)
   some_factor = let s = some_atom in record { text = s.text; value = s.value; reads = inr s.reads }
@@ -340,8 +414,11 @@ module _ (m : Asked) (text : Bytes) (d : Depth) (u : Under) (v : Level d u) wher
   fits_negated a = after k.Not (λ _. g.ranged m text d Negated a) _ (of sum_stops) (λ _. fits_ranged Negated a) (λ _. some_ranged Negated a)
 
   -- what may follow the first sum, from the last alternative to the first
+  abbrev test_4 : Expr → Phrase Token Expr
+  test_4 a = g.nullity a <|> nothing a
+
   abbrev test_3 : Expr → Phrase Token Expr
-  test_3 a = g.ranged m text d Plain a <|> nothing a
+  test_3 a = g.ranged m text d Plain a <|> test_4 a
 
   abbrev test_2 : Expr → Phrase Token Expr
   test_2 a = g.negated m text d a <|> test_3 a
@@ -349,55 +426,86 @@ module _ (m : Asked) (text : Bytes) (d : Depth) (u : Under) (v : Level d u) wher
   wider : (L : Phrase Token Expr) (q : Parser Expr) → FitsQ L (of sum_stops) q → FitsQ L (of pred_stops) q
   wider L q good = weaken L q (of sum_stops) (of pred_stops) good (λ t h. or_right (tests t.kind) (sum_stops t.kind) h)
 
-  no_range : (x : Kind) → pred_stops x ≡ false → ranges x ≡ false
-  no_range x h = or_right (same_kind x k.Not) (ranges x) (or_right (compares x) (same_kind x k.Not || ranges x) (or_left (tests x) (sum_stops x) h))
-
-  no_not : (x : Kind) → pred_stops x ≡ false → same_kind x k.Not ≡ false
-  no_not x h = or_left (same_kind x k.Not) (ranges x) (or_right (compares x) (same_kind x k.Not || ranges x) (or_left (tests x) (sum_stops x) h))
+  -- a kind that follows a predicate begins no test
+  no_test : (x : Kind) → pred_stops x ≡ false → tests x ≡ false
+  no_test x h = or_left (tests x) (sum_stops x) h
 
   no_compare : (x : Kind) → pred_stops x ≡ false → compares x ≡ false
-  no_compare x h = or_left (compares x) (same_kind x k.Not || ranges x) (or_left (tests x) (sum_stops x) h)
+  no_compare x h = or_left (compares x) (same_kind x k.Not || (ranges x || same_kind x k.Is)) (no_test x h)
 
-  quiet_3 : (h : Kind → Bool) → h k.Between ≡ false → h k.In ≡ false → (a : Expr) → Quiet (of h) (test_3 a)
-  quiet_3 h i j a = quiet_either (of h) (g.ranged m text d Plain a) (nothing a)
+  past_compare : (x : Kind) → pred_stops x ≡ false → same_kind x k.Not || (ranges x || same_kind x k.Is) ≡ false
+  past_compare x h = or_right (compares x) (same_kind x k.Not || (ranges x || same_kind x k.Is)) (no_test x h)
+
+  no_not : (x : Kind) → pred_stops x ≡ false → same_kind x k.Not ≡ false
+  no_not x h = or_left (same_kind x k.Not) (ranges x || same_kind x k.Is) (past_compare x h)
+
+  past_not : (x : Kind) → pred_stops x ≡ false → ranges x || same_kind x k.Is ≡ false
+  past_not x h = or_right (same_kind x k.Not) (ranges x || same_kind x k.Is) (past_compare x h)
+
+  no_range : (x : Kind) → pred_stops x ≡ false → ranges x ≡ false
+  no_range x h = or_left (ranges x) (same_kind x k.Is) (past_not x h)
+
+  no_is : (x : Kind) → pred_stops x ≡ false → same_kind x k.Is ≡ false
+  no_is x h = or_right (ranges x) (same_kind x k.Is) (past_not x h)
+
+  quiet_4 : (h : Kind → Bool) → h k.Is ≡ false → (a : Expr) → Quiet (of h) (test_4 a)
+  quiet_4 h s a = quiet_either (of h) (g.nullity a) (nothing a) (quiet_word h k.Is _ s) (quiet_nothing (of h) a)
+
+  quiet_3 : (h : Kind → Bool) → h k.Between ≡ false → h k.In ≡ false → h k.Is ≡ false → (a : Expr) → Quiet (of h) (test_3 a)
+  quiet_3 h i j s a = quiet_either (of h) (g.ranged m text d Plain a) (test_4 a)
       (quiet_starts (of ranges) (of h) (g.ranged m text d Plain a) (λ t y. ranges_are h false i j t.kind y) (starts_ranged Plain a))
-      (quiet_nothing (of h) a)
+      (quiet_4 h s a)
 
-  quiet_2 : (h : Kind → Bool) → h k.Not ≡ false → h k.Between ≡ false → h k.In ≡ false → (a : Expr) → Quiet (of h) (test_2 a)
-  quiet_2 h n i j a = quiet_either (of h) (g.negated m text d a) (test_3 a) (quiet_word h k.Not _ n) (quiet_3 h i j a)
+  quiet_2 : (h : Kind → Bool) → h k.Not ≡ false → h k.Between ≡ false → h k.In ≡ false → h k.Is ≡ false → (a : Expr) → Quiet (of h) (test_2 a)
+  quiet_2 h n i j s a = quiet_either (of h) (g.negated m text d a) (test_3 a) (quiet_word h k.Not _ n) (quiet_3 h i j s a)
 
-  quiet_test : (h : Kind → Bool) → h k.Equal ≡ false → h k.Differs ≡ false → h k.Less ≡ false → h k.LessEqual ≡ false → h k.Greater ≡ false → h k.GreaterEqual ≡ false → h k.Not ≡ false → h k.Between ≡ false → h k.In ≡ false → (a : Expr) → Quiet (of h) (g.predicate_tail m text d a)
-  quiet_test h b c e o q w n i j a = quiet_either (of h) (g.compared m text d a) (test_2 a)
+  quiet_test : (h : Kind → Bool) → h k.Equal ≡ false → h k.Differs ≡ false → h k.Less ≡ false → h k.LessEqual ≡ false → h k.Greater ≡ false → h k.GreaterEqual ≡ false → h k.Not ≡ false → h k.Between ≡ false → h k.In ≡ false → h k.Is ≡ false → (a : Expr) → Quiet (of h) (g.predicate_tail m text d a)
+  quiet_test h b c e o q w n i j s a = quiet_either (of h) (g.compared m text d a) (test_2 a)
       (quiet_token (of compares) (of h) (λ t. Both (g.sum m text d) (λ x. nothing (binary (comparison t.kind) t.at a x))) (λ t y. compares_are h false b c e o q w t.kind y))
-      (quiet_2 h n i j a)
+      (quiet_2 h n i j s a)
 
-  fits_3' : (a : Expr) → FitsQ (test_3 a) (of pred_stops) (either (of ranges) (r.ranged m text u Plain a) (pure a))
-  fits_3' a = good_either (g.ranged m text d Plain a) (nothing a) (r.ranged m text u Plain a) (pure a) (of ranges) (of pred_stops)
-      (wider (g.ranged m text d Plain a) (r.ranged m text u Plain a) (fits_ranged Plain a)) (good_pure a (of pred_stops))
+  abbrev test_parser_4 : Expr → Parser Expr
+  test_parser_4 a = either (is k.Is) (r.nullity a) (pure a)
+
+  abbrev test_parser_3 : Expr → Parser Expr
+  test_parser_3 a = either (of ranges) (r.ranged m text u Plain a) (test_parser_4 a)
+
+  abbrev test_parser_2 : Expr → Parser Expr
+  test_parser_2 a = either (is k.Not) (r.negated m text u a) (test_parser_3 a)
+
+  fits_test_4 : (a : Expr) → FitsQ (test_4 a) (of pred_stops) (test_parser_4 a)
+  fits_test_4 a = good_either (g.nullity a) (nothing a) (r.nullity a) (pure a) (is k.Is) (of pred_stops)
+      (fits_nullity (of pred_stops) a) (good_pure a (of pred_stops))
+      (starts_word k.Is _)
+      (λ xs rest b l e. quiet_nothing (is k.Is) a xs rest b l (next-weaker (is k.Is) (of pred_stops) (λ t h. no_is t.kind h) rest e))
+
+  fits_test_3 : (a : Expr) → FitsQ (test_3 a) (of pred_stops) (test_parser_3 a)
+  fits_test_3 a = good_either (g.ranged m text d Plain a) (test_4 a) (r.ranged m text u Plain a) (test_parser_4 a) (of ranges) (of pred_stops)
+      (wider (g.ranged m text d Plain a) (r.ranged m text u Plain a) (fits_ranged Plain a)) (fits_test_4 a)
       (starts_ranged Plain a)
-      (λ xs rest b l e. quiet_nothing (of ranges) a xs rest b l (next-weaker (of ranges) (of pred_stops) (λ t h. no_range t.kind h) rest e))
+      (λ xs rest b l e. quiet_4 ranges refl a xs rest b l (next-weaker (of ranges) (of pred_stops) (λ t h. no_range t.kind h) rest e))
 
-  fits_2' : (a : Expr) → FitsQ (test_2 a) (of pred_stops) (either (is k.Not) (r.negated m text u a) (either (of ranges) (r.ranged m text u Plain a) (pure a)))
+  fits_test_2 : (a : Expr) → FitsQ (test_2 a) (of pred_stops) (test_parser_2 a)
   unfolding same_kind
-  fits_2' a = good_either (g.negated m text d a) (test_3 a) (r.negated m text u a) (either (of ranges) (r.ranged m text u Plain a) (pure a)) (is k.Not) (of pred_stops)
-      (wider (g.negated m text d a) (r.negated m text u a) (fits_negated a)) (fits_3' a)
+  fits_test_2 a = good_either (g.negated m text d a) (test_3 a) (r.negated m text u a) (test_parser_3 a) (is k.Not) (of pred_stops)
+      (wider (g.negated m text d a) (r.negated m text u a) (fits_negated a)) (fits_test_3 a)
       (starts_word k.Not _)
-      (λ xs rest b l e. quiet_3 (λ x. same_kind x k.Not) refl refl a xs rest b l (next-weaker (is k.Not) (of pred_stops) (λ t h. no_not t.kind h) rest e))
+      (λ xs rest b l e. quiet_3 (λ x. same_kind x k.Not) refl refl refl a xs rest b l (next-weaker (is k.Not) (of pred_stops) (λ t h. no_not t.kind h) rest e))
 
   fits_test : (a : Expr) → FitsQ (g.predicate_tail m text d a) (of pred_stops) (r.predicate_tail m text u a)
-  unfolding r.predicate_tail same_kind
-  fits_test a = good_either (g.compared m text d a) (test_2 a) (r.compared m text u a) (either (is k.Not) (r.negated m text u a) (either (of ranges) (r.ranged m text u Plain a) (pure a))) (of compares) (of pred_stops)
-      (wider (g.compared m text d a) (r.compared m text u a) (fits_compared a)) (fits_2' a)
+  unfolding r.predicate_tail
+  fits_test a = good_either (g.compared m text d a) (test_2 a) (r.compared m text u a) (test_parser_2 a) (of compares) (of pred_stops)
+      (wider (g.compared m text d a) (r.compared m text u a) (fits_compared a)) (fits_test_2 a)
       (starts_of compares (λ t. Both (g.sum m text d) (λ x. nothing (binary (comparison t.kind) t.at a x))))
-      (λ xs rest b l e. quiet_2 compares refl refl refl a xs rest b l (next-weaker (of compares) (of pred_stops) (λ t h. no_compare t.kind h) rest e))
+      (λ xs rest b l e. quiet_2 compares refl refl refl refl a xs rest b l (next-weaker (of compares) (of pred_stops) (λ t h. no_compare t.kind h) rest e))
 
   some_test : (a : Expr) → Some (g.predicate_tail m text d a)
-  some_test a = record { text = []; value = a; reads = inr (inr (inr (refl, refl))) }
+  some_test a = record { text = []; value = a; reads = inr (inr (inr (inr (refl, refl)))) }
 
   fits_pred : FitsQ (g.pred m text d) (of pred_stops) (r.pred m text u)
   unfolding r.pred same_kind
   fits_pred = good_bind (g.sum m text d) (g.predicate_tail m text d) (r.sum m text u) (r.predicate_tail m text u) (of sum_stops) (of pred_stops) fits_sum fits_test
-      (λ a ys rest b l e. quiet_test sum_stops refl refl refl refl refl refl refl refl refl a ys rest b l (next-weaker (of sum_stops) (of pred_stops) (λ t h. or_right (tests t.kind) (sum_stops t.kind) h) rest e))
+      (λ a ys rest b l e. quiet_test sum_stops refl refl refl refl refl refl refl refl refl refl a ys rest b l (next-weaker (of sum_stops) (of pred_stops) (λ t h. or_right (tests t.kind) (sum_stops t.kind) h) rest e))
       some_test
 
   some_pred : Some (g.pred m text d)
@@ -409,7 +517,7 @@ module _ (m : Asked) (text : Bytes) (d : Depth) (u : Under) (v : Level d u) wher
   unfolding r.neg same_kind
   fits_neg = good_either d.nots (g.pred m text d) u.nots (r.pred m text u) (is k.Not) (of pred_stops) v.nots fits_pred v.nots_start
       (λ xs rest a l e. avoids_both (is k.Not) (g.sum m text d) (g.predicate_tail m text d)
-      (avoids_sum (λ x. same_kind x k.Not) (avoids_factor (λ x. same_kind x k.Not) refl refl (avoids_atom (λ x. same_kind x k.Not) refl refl refl refl refl refl refl refl refl refl))) xs rest a l)
+      (avoids_sum (λ x. same_kind x k.Not) (avoids_factor (λ x. same_kind x k.Not) refl refl (avoids_atom (λ x. same_kind x k.Not) refl))) xs rest a l)
 
   some_neg : Some (g.neg m text d)
   some_neg = let s = some_pred in record { text = s.text; value = s.value; reads = inr s.reads }
@@ -430,13 +538,16 @@ module _ (m : Asked) (text : Bytes) (d : Depth) (u : Under) (v : Level d u) wher
   pub some_expr_at : Some (g.expr m text d)
   some_expr_at = some_both (g.conj m text d) (Repeated (g.operation k.Or op.Or (g.conj m text d))) some_conj (some_repeated (g.operation k.Or op.Or (g.conj m text d)))
 
-  pub avoids_expr_at : (h : Kind → Bool) → h k.Not ≡ false → h k.Plus ≡ false → h k.Minus ≡ false → h k.Digits ≡ false → h k.Quoted ≡ false → h k.Date ≡ false → h k.Name ≡ false → h k.Count ≡ false → h k.Sum ≡ false → h k.Min ≡ false → h k.Max ≡ false → h k.Avg ≡ false → h k.OpenParen ≡ false → Avoids (of h) (g.expr m text d)
-  avoids_expr_at h w x z y q o n j a b c e i =
+  pub avoids_expr_at : (h : Kind → Bool) → apart (k.Not ∷ k.Plus ∷ k.Minus ∷ kinds_1) h ≡ true → Avoids (of h) (g.expr m text d)
+  avoids_expr_at h e =
+      let a = others_apart k.Not (k.Plus ∷ k.Minus ∷ kinds_1) h e in
+      let b = others_apart k.Plus (k.Minus ∷ kinds_1) h a in
       avoids_both (of h) (g.conj m text d) (Repeated (g.operation k.Or op.Or (g.conj m text d)))
       (avoids_both (of h) (g.neg m text d) (Repeated (g.operation k.And op.And (g.neg m text d)))
       (avoids_either (of h) d.nots (g.pred m text d)
-      (avoids_starts (is k.Not) (of h) d.nots (λ t u. of_kind h k.Not t u ∙ w) v.nots_start)
-      (avoids_both (of h) (g.sum m text d) (g.predicate_tail m text d) (avoids_sum h (avoids_factor h x z (avoids_atom h y q o n j a b c e i))))))
+      (avoids_starts (is k.Not) (of h) d.nots (λ t u. of_kind h k.Not t u ∙ first_apart k.Not (k.Plus ∷ k.Minus ∷ kinds_1) h e) v.nots_start)
+      (avoids_both (of h) (g.sum m text d) (g.predicate_tail m text d)
+      (avoids_sum h (avoids_factor h (first_apart k.Plus (k.Minus ∷ kinds_1) h a) (first_apart k.Minus kinds_1 h b) (avoids_atom h (others_apart k.Minus kinds_1 h b)))))))
 
   -- ---- one level deeper
 
@@ -480,6 +591,79 @@ module _ (m : Asked) (text : Bytes) (d : Depth) (u : Under) (v : Level d u) wher
   fits_listed = after k.OpenParen (λ _. Both (g.series (g.sum m text d)) ends_list) _ free (λ _. fits_closed_sums)
       (λ _. some_both (g.series (g.sum m text d)) ends_list (some_series (g.sum m text d) some_sum) (λ xs. some_map k.CloseParen (λ _. xs)))
 
+  -- the rows or the expression that COUNT counts
+  abbrev all_rows : Phrase Token (Option Expr)
+  all_rows = word k.Star >> nothing Opt.None
+
+  abbrev ends_count : Option Expr → Phrase Token (Option Expr)
+  ends_count x = word k.CloseParen >> nothing x
+
+  fits_star_or_expr : FitsQ (g.star_or_expr m text d) (of expr_stops) (r.star_or_expr m text u)
+  unfolding r.star_or_expr same_kind
+  fits_star_or_expr = good_either all_rows (Both (g.expr m text d) (λ a. nothing (Opt.Some a))) _ _ (is k.Star) (of expr_stops)
+      (word_map k.Star (λ _. Opt.None) (of expr_stops))
+      (good_map (g.expr m text d) (r.expr m text u) (of expr_stops) fits_expr_at (λ a. Opt.Some a))
+      (starts_word k.Star (λ _. nothing Opt.None))
+      (λ xs rest a l e. avoids_both (is k.Star) (g.expr m text d) (λ a. nothing (Opt.Some a)) (avoids_expr_at (λ x. same_kind x k.Star) refl) xs rest a l)
+
+  some_star_or_expr : Some (g.star_or_expr m text d)
+  some_star_or_expr = let s = some_map k.Star (λ _. Opt.None) in record { text = s.text; value = s.value; reads = inl s.reads }
+
+  pub fits_closed_count : FitsQ (Both (g.star_or_expr m text d) ends_count) free (r.star_or_expr m text u >>= (λ x. expect k.CloseParen >>= (λ _. pure x)))
+  unfolding same_kind
+  fits_closed_count = good_bind (g.star_or_expr m text d) ends_count (r.star_or_expr m text u) _ (of expr_stops) free fits_star_or_expr
+      (λ x. word_map k.CloseParen (λ _. x) free)
+      (λ x ys rest b l e. avoids_word expr_stops k.CloseParen (λ _. nothing x) refl ys rest b l)
+      (λ x. some_map k.CloseParen (λ _. x))
+
+  fits_counted : FitsQ (g.counted m text d) free (r.counted m text u)
+  unfolding r.counted
+  fits_counted = after k.OpenParen (λ _. Both (g.star_or_expr m text d) ends_count) _ free (λ _. fits_closed_count)
+      (λ _. some_both (g.star_or_expr m text d) ends_count some_star_or_expr (λ x. some_map k.CloseParen (λ _. x)))
+
+  -- what COALESCE chooses from
+  abbrev choice_stops : Kind → Bool
+  choice_stops = series_stops expr_stops
+
+  abbrev others : Expr → Phrase Token Choices
+  others a = word k.Comma >> Both (g.series (g.expr m text d)) (λ xs. nothing (choice a xs))
+
+  some_others : (a : Expr) → Some (others a)
+  some_others a = some_both (word k.Comma) _ (some_word k.Comma) (λ _. some_both (g.series (g.expr m text d)) _ (some_series (g.expr m text d) some_expr_at) (λ xs. some_nothing (choice a xs)))
+
+  fits_exprs : FitsQ (g.series (g.expr m text d)) (of choice_stops) (r.series (r.expr m text u))
+  unfolding same_kind
+  fits_exprs = fits_series (g.expr m text d) (r.expr m text u) expr_stops refl fits_expr_at some_expr_at
+
+  fits_others : (a : Expr) → FitsQ (others a) (of choice_stops) (expect k.Comma >>= (λ _. r.series (r.expr m text u) >>= (λ xs. pure (choice a xs))))
+  fits_others a = after k.Comma (λ _. Both (g.series (g.expr m text d)) (λ xs. nothing (choice a xs))) _ (of choice_stops)
+      (λ _. good_map (g.series (g.expr m text d)) (r.series (r.expr m text u)) (of choice_stops) fits_exprs (λ xs. choice a xs))
+      (λ _. some_both (g.series (g.expr m text d)) _ (some_series (g.expr m text d) some_expr_at) (λ xs. some_nothing (choice a xs)))
+
+  fits_alternatives : FitsQ (g.alternatives m text d) (of choice_stops) (r.alternatives m text u)
+  unfolding r.alternatives same_kind
+  fits_alternatives = good_bind (g.expr m text d) others (r.expr m text u) _ (of expr_stops) (of choice_stops) fits_expr_at fits_others
+      (λ a ys rest b l e. avoids_word expr_stops k.Comma (λ _. Both (g.series (g.expr m text d)) (λ xs. nothing (choice a xs))) refl ys rest b l)
+      some_others
+
+  some_alternatives : Some (g.alternatives m text d)
+  some_alternatives = some_both (g.expr m text d) others some_expr_at some_others
+
+  abbrev ends_choices : Choices → Phrase Token Choices
+  ends_choices x = word k.CloseParen >> nothing x
+
+  pub fits_closed_choices : FitsQ (Both (g.alternatives m text d) ends_choices) free (r.alternatives m text u >>= (λ x. expect k.CloseParen >>= (λ _. pure x)))
+  unfolding same_kind
+  fits_closed_choices = good_bind (g.alternatives m text d) ends_choices (r.alternatives m text u) _ (of choice_stops) free fits_alternatives
+      (λ x. word_map k.CloseParen (λ _. x) free)
+      (λ x ys rest b l e. avoids_word choice_stops k.CloseParen (λ _. nothing x) refl ys rest b l)
+      (λ x. some_map k.CloseParen (λ _. x))
+
+  fits_choices : FitsQ (g.choices m text d) free (r.choices m text u)
+  unfolding r.choices
+  fits_choices = after k.OpenParen (λ _. Both (g.alternatives m text d) ends_choices) _ free (λ _. fits_closed_choices)
+      (λ _. some_both (g.alternatives m text d) ends_choices some_alternatives (λ x. some_map k.CloseParen (λ _. x)))
+
   pub fits_negation : (t : Token) → FitsQ (Both (g.neg m text d) (λ a. nothing (node t.at (f.Not a)))) (of pred_stops) (r.neg m text u >>= (λ a. pure (node t.at (f.Not a))))
   fits_negation t = good_map (g.neg m text d) (r.neg m text u) (of pred_stops) fits_neg (λ a. node t.at (f.Not a))
 
@@ -498,14 +682,6 @@ module _ (m : Asked) (text : Bytes) (d : Depth) (u : Under) (v : Level d u) wher
 
 -- ---- the levels
 
-pub fits_closed_star : FitsQ (Both (word k.Star) (λ s. word k.CloseParen >> nothing s)) free (expect k.Star >>= (λ s. expect k.CloseParen >>= (λ _. pure s)))
-fits_closed_star = after k.Star (λ s. word k.CloseParen >> nothing s) _ free (λ s. word_map k.CloseParen (λ _. s) free) (λ s. some_map k.CloseParen (λ _. s))
-
-fits_star : FitsQ g.star free r.star
-unfolding r.star
-fits_star = after k.OpenParen (λ _. Both (word k.Star) (λ s. word k.CloseParen >> nothing s)) _ free (λ _. fits_closed_star)
-    (λ _. some_both (word k.Star) (λ s. word k.CloseParen >> nothing s) (some_word k.Star) (λ s. some_map k.CloseParen (λ _. s)))
-
 -- a parenthesis that may be opened
 opens_one : {A : Type 0} (L : Phrase Token A) (q : Parser A) → FitsQ L free q → Starts (is k.OpenParen) L → Opens L (opening q)
 opens_one L q good starts = record {
@@ -520,11 +696,12 @@ opens_none : {A : Type 0} → Opens {A = A} none (opening (refuse TooDeep))
 opens_none = opens_one none (refuse TooDeep) (good_refuse TooDeep free) (starts_none (is k.OpenParen))
 
 pub level : (m : Asked) (text : Bytes) (n : ℕ) → Level (g.depth m text n) (r.under m text n)
-unfolding g.depth r.under r.stars
+unfolding g.depth r.under
 level m text zero = record {
   parens = opens_none;
-  star = opens_none;
+  counted = opens_none;
   list = opens_none;
+  choices = opens_none;
   nots = good_refuse TooDeep (of pred_stops);
   nots_start = starts_none (is k.Not);
   signed = good_refuse TooDeep (of atom_stops);
@@ -536,8 +713,9 @@ level m text (suc n) =
     let v = level m text n in
     record {
       parens = opens_one (g.parens m text d) (r.parens m text u) (fits_parens m text d u v) (starts_word k.OpenParen _);
-      star = opens_one g.star r.star fits_star (starts_word k.OpenParen _);
+      counted = opens_one (g.counted m text d) (r.counted m text u) (fits_counted m text d u v) (starts_word k.OpenParen _);
       list = opens_one (g.listed m text d) (r.listed m text u) (fits_listed m text d u v) (starts_word k.OpenParen _);
+      choices = opens_one (g.choices m text d) (r.choices m text u) (fits_choices m text d u v) (starts_word k.OpenParen _);
       nots = fits_nots m text d u v;
       nots_start = starts_word k.Not _;
       signed = fits_signed m text d u v;
@@ -550,5 +728,9 @@ fits_expr m text n = fits_expr_at m text (g.depth m text n) (r.under m text n) (
 pub some_expr : (m : Asked) (text : Bytes) (n : ℕ) → Some (g.expr m text (g.depth m text n))
 some_expr m text n = some_expr_at m text (g.depth m text n) (r.under m text n) (level m text n)
 
-pub avoids_expr : (m : Asked) (text : Bytes) (n : ℕ) (h : Kind → Bool) → h k.Not ≡ false → h k.Plus ≡ false → h k.Minus ≡ false → h k.Digits ≡ false → h k.Quoted ≡ false → h k.Date ≡ false → h k.Name ≡ false → h k.Count ≡ false → h k.Sum ≡ false → h k.Min ≡ false → h k.Max ≡ false → h k.Avg ≡ false → h k.OpenParen ≡ false → Avoids (of h) (g.expr m text (g.depth m text n))
+-- what an expression begins with
+abbrev pub expr_kinds : List Kind
+expr_kinds = k.Not ∷ k.Plus ∷ k.Minus ∷ k.Digits ∷ k.Fraction ∷ k.Quoted ∷ k.Date ∷ k.Name ∷ k.Count ∷ k.Sum ∷ k.Min ∷ k.Max ∷ k.Avg ∷ k.Coalesce ∷ k.OpenParen ∷ []
+
+pub avoids_expr : (m : Asked) (text : Bytes) (n : ℕ) (h : Kind → Bool) → apart expr_kinds h ≡ true → Avoids (of h) (g.expr m text (g.depth m text n))
 avoids_expr m text n = avoids_expr_at m text (g.depth m text n) (r.under m text n) (level m text n)

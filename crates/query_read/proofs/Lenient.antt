@@ -19,7 +19,7 @@ use Rattle.query_trees.specs.declared.expr.Expr.{Expr}
 use Rattle.query_read.specs.Asked.{Asked}
 use Rattle.query_read.specs.Days.{moved}
 use Rattle.query_read.specs.Classes.{multiplies, ranges}
-use Rattle.query_read.specs.Nodes.{signs, steps, compares, aggregates, of, sign_of}
+use Rattle.query_read.specs.Nodes.{signs, steps, compares, numerals, aggregates, of, sign_of}
 use Rattle.query_read.specs.ExpressionParsers as r
 use Rattle.query_read.specs.ExpressionParsers.{Parser, Under, expect, expect_of, opening}
 
@@ -78,8 +78,9 @@ pub record Eases (deep : Fault) (m n : Asked) : Type 0 where
 -- the second opens what the first opens
 pub record Opens (deep : Fault) (u v : Under) : Type 0 where
   pub parens : Rel deep u.parens v.parens
-  pub star : Rel deep u.star v.star
+  pub counted : Rel deep u.counted v.counted
   pub list : Rel deep u.list v.list
+  pub choices : Rel deep u.choices v.choices
   pub nots : (s t : Parser Expr) → Rel deep s t → Rel deep (either (is k.Not) u.nots s) (either (is k.Not) v.nots t)
   pub signed : (s t : Parser Expr) → Rel deep s t → Rel deep (either (of signs) u.signed s) (either (of signs) v.signed t)
 
@@ -107,7 +108,7 @@ module _ (deep : Fault) (other : Unexpected ≡ deep → ⊥) where
 
   rel_number : Rel deep r.number r.number
   unfolding r.number
-  rel_number = after k.Digits _ _ (λ t. ends _)
+  rel_number = after_of numerals _ _ (λ t. ends _)
 
   rel_literal : (text : Bytes) → Rel deep (r.literal text) (r.literal text)
   unfolding r.literal
@@ -125,9 +126,9 @@ module _ (deep : Fault) (other : Unexpected ≡ deep → ⊥) where
   unfolding r.operation
   rel_operation kind o q s h a = after kind _ _ (λ t. rel_map deep q s _ h)
 
-  pub rel_star : Rel deep r.star r.star
-  unfolding r.star
-  rel_star = after k.OpenParen _ _ (λ _. after k.Star _ _ (λ s. after k.CloseParen _ _ (λ _. ends s)))
+  rel_nullity : (a : Expr) → Rel deep (r.nullity a) (r.nullity a)
+  unfolding r.nullity r.polarity
+  rel_nullity a = after k.Is _ _ (λ t. rel_bind deep r.polarity r.polarity _ _ (rel_either deep (is k.Not) _ _ _ _ (after k.Not _ _ (λ _. ends Negated)) (ends Plain)) (λ p. after k.Null _ _ (λ _. ends _)))
 
 module _ (deep : Fault) (m n : Asked) (e : Eases deep m n) (text : Bytes) where
   rel_step : (day : ℤ) → Rel deep (r.step m text day) (r.step n text day)
@@ -140,9 +141,13 @@ module _ (deep : Fault) (m n : Asked) (e : Eases deep m n) (text : Bytes) where
       (λ first. rel_map deep (r.more_steps m text first) (r.more_steps n text first) _ (rel_repeat deep (of steps) (r.step m text) (r.step n text) rel_step first)))
 
   module _ (u v : Under) (o : Opens deep u v) where
-    rel_count : Rel deep (r.count u.star) (r.count v.star)
+    rel_count : Rel deep (r.count u) (r.count v)
     unfolding r.count
-    rel_count = after deep e.other k.Count _ _ (λ t. rel_map deep u.star v.star _ o.star)
+    rel_count = after deep e.other k.Count _ _ (λ t. rel_map deep u.counted v.counted _ o.counted)
+
+    rel_coalesce : Rel deep (r.coalesce u) (r.coalesce v)
+    unfolding r.coalesce
+    rel_coalesce = after deep e.other k.Coalesce _ _ (λ t. rel_map deep u.choices v.choices _ o.choices)
 
     rel_aggregate : Rel deep (r.aggregate u) (r.aggregate v)
     unfolding r.aggregate
@@ -154,12 +159,13 @@ module _ (deep : Fault) (m n : Asked) (e : Eases deep m n) (text : Bytes) where
 
     rel_atom : Rel deep (r.atom m text u) (r.atom n text v)
     unfolding r.atom
-    rel_atom = rel_either deep (is k.Digits) _ _ _ _ (rel_number deep e.other)
+    rel_atom = rel_either deep (of numerals) _ _ _ _ (rel_number deep e.other)
         (rel_either deep (is k.Quoted) _ _ _ _ (rel_literal deep e.other text)
         (rel_either deep (is k.Date) _ _ _ _ rel_date
         (rel_either deep (is k.Name) _ _ _ _ (rel_reference deep e.other text)
         (rel_either deep (is k.Count) _ _ _ _ rel_count
-        (rel_either deep (of aggregates) _ _ _ _ rel_aggregate rel_enclosed)))))
+        (rel_either deep (of aggregates) _ _ _ _ rel_aggregate
+        (rel_either deep (is k.Coalesce) _ _ _ _ rel_coalesce rel_enclosed))))))
 
     rel_factor : Rel deep (r.factor m text u) (r.factor n text v)
     unfolding r.factor
@@ -201,7 +207,8 @@ module _ (deep : Fault) (m n : Asked) (e : Eases deep m n) (text : Bytes) where
     unfolding r.predicate_tail r.negated
     rel_test a = rel_either deep (of compares) _ _ _ _ (rel_compared a)
         (rel_either deep (is k.Not) _ _ _ _ (after deep e.other k.Not _ _ (λ _. rel_ranged Negated a))
-        (rel_either deep (of ranges) _ _ _ _ (rel_ranged Plain a) (ends deep e.other a)))
+        (rel_either deep (of ranges) _ _ _ _ (rel_ranged Plain a)
+        (rel_either deep (is k.Is) _ _ _ _ (rel_nullity deep e.other a) (ends deep e.other a))))
 
     rel_pred : Rel deep (r.pred m text u) (r.pred n text v)
     unfolding r.pred
@@ -226,6 +233,23 @@ module _ (deep : Fault) (m n : Asked) (e : Eases deep m n) (text : Bytes) where
     pub rel_listed : Rel deep (r.listed m text u) (r.listed n text v)
     unfolding r.listed
     rel_listed = after deep e.other k.OpenParen _ _ (λ _. rel_bind deep (r.series (r.sum m text u)) (r.series (r.sum n text v)) _ _ (rel_series deep e.other (r.sum m text u) (r.sum n text v) rel_sum) (λ xs. after deep e.other k.CloseParen _ _ (λ _. ends deep e.other xs)))
+
+    rel_star_or_expr : Rel deep (r.star_or_expr m text u) (r.star_or_expr n text v)
+    unfolding r.star_or_expr
+    rel_star_or_expr = rel_either deep (is k.Star) _ _ _ _ (after deep e.other k.Star _ _ (λ _. ends deep e.other _)) (rel_map deep (r.expr m text u) (r.expr n text v) _ rel_expr)
+
+    pub rel_counted : Rel deep (r.counted m text u) (r.counted n text v)
+    unfolding r.counted
+    rel_counted = after deep e.other k.OpenParen _ _ (λ _. rel_bind deep (r.star_or_expr m text u) (r.star_or_expr n text v) _ _ rel_star_or_expr (λ x. after deep e.other k.CloseParen _ _ (λ _. ends deep e.other x)))
+
+    rel_alternatives : Rel deep (r.alternatives m text u) (r.alternatives n text v)
+    unfolding r.alternatives
+    rel_alternatives = rel_bind deep (r.expr m text u) (r.expr n text v) _ _ rel_expr
+        (λ a. after deep e.other k.Comma _ _ (λ _. rel_map deep (r.series (r.expr m text u)) (r.series (r.expr n text v)) _ (rel_series deep e.other (r.expr m text u) (r.expr n text v) rel_expr)))
+
+    pub rel_choices : Rel deep (r.choices m text u) (r.choices n text v)
+    unfolding r.choices
+    rel_choices = after deep e.other k.OpenParen _ _ (λ _. rel_bind deep (r.alternatives m text u) (r.alternatives n text v) _ _ rel_alternatives (λ x. after deep e.other k.CloseParen _ _ (λ _. ends deep e.other x)))
 
     pub rel_nots : Rel deep (r.nots m text u) (r.nots n text v)
     unfolding r.nots

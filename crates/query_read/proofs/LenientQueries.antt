@@ -21,8 +21,8 @@ use Rattle.query_read.specs.Expressions as g
 use Rattle.query_read.specs.ExpressionParsers as r
 use Rattle.query_read.specs.ExpressionParsers.{Parser, Under, expect, opening}
 use Rattle.query_read.specs.ClauseParsers as c
-use Rattle.query_read.proofs.FitsExpressions.{level, pred_stops, atom_stops, fits_closed, fits_closed_sums, fits_closed_star, fits_negation, fits_after_sign}
-use Rattle.query_read.proofs.Lenient.{Eases, Opens, rel_sound, rel_lenient, after, ends, rel_series, rel_column, rel_star, rel_expr, rel_parens, rel_listed, rel_nots, rel_signed}
+use Rattle.query_read.proofs.FitsExpressions.{level, pred_stops, atom_stops, fits_closed, fits_closed_count, fits_closed_sums, fits_closed_choices, fits_negation, fits_after_sign}
+use Rattle.query_read.proofs.Lenient.{Eases, Opens, rel_sound, rel_lenient, after, ends, rel_series, rel_column, rel_expr, rel_parens, rel_counted, rel_listed, rel_choices, rel_nots, rel_signed}
 
 -- ---- clauses, over expressions
 
@@ -105,11 +105,12 @@ rel_shut deep other q s h = rel_either deep (is k.OpenParen) q s (refuse Unexpec
 
 module _ (deep : Fault) (m n : Asked) (e : Eases deep m n) (shallow : TooDeep ≡ deep → ⊥) (text : Bytes) where
   rel_under : (i : ℕ) → Opens deep (r.under m text i) (r.under n text i)
-  unfolding r.under r.stars
+  unfolding r.under
   rel_under zero = record {
     parens = rel_shut deep e.other (refuse TooDeep) (refuse TooDeep) (rel_refuse deep TooDeep shallow);
-    star = rel_shut deep e.other (refuse TooDeep) (refuse TooDeep) (rel_refuse deep TooDeep shallow);
+    counted = rel_shut deep e.other (refuse TooDeep) (refuse TooDeep) (rel_refuse deep TooDeep shallow);
     list = rel_shut deep e.other (refuse TooDeep) (refuse TooDeep) (rel_refuse deep TooDeep shallow);
+    choices = rel_shut deep e.other (refuse TooDeep) (refuse TooDeep) (rel_refuse deep TooDeep shallow);
     nots = λ s t h. rel_either deep (is k.Not) (refuse TooDeep) (refuse TooDeep) s t (rel_refuse deep TooDeep shallow) h;
     signed = λ s t h. rel_either deep (of signs) (refuse TooDeep) (refuse TooDeep) s t (rel_refuse deep TooDeep shallow) h;
   }
@@ -119,8 +120,9 @@ module _ (deep : Fault) (m n : Asked) (e : Eases deep m n) (shallow : TooDeep �
       let o = rel_under i in
       record {
         parens = rel_shut deep e.other (r.parens m text u) (r.parens n text v) (rel_parens deep m n e text u v o);
-        star = rel_shut deep e.other r.star r.star (rel_star deep e.other);
+        counted = rel_shut deep e.other (r.counted m text u) (r.counted n text v) (rel_counted deep m n e text u v o);
         list = rel_shut deep e.other (r.listed m text u) (r.listed n text v) (rel_listed deep m n e text u v o);
+        choices = rel_shut deep e.other (r.choices m text u) (r.choices n text v) (rel_choices deep m n e text u v o);
         nots = λ s t h. rel_either deep (is k.Not) (r.nots m text u) (r.nots n text v) s t (rel_nots deep m n e text u v o) h;
         signed = λ s t h. rel_either deep (of signs) (r.signed m text u) (r.signed n text v) s t (rel_signed deep m n e text u v o) h;
       }
@@ -200,21 +202,22 @@ module _ (a b d : Bool) where
     opened q w = rel_opening TooDeep Unexpected (is k.OpenParen) q (refuse Unexpected) (refuse Unexpected) w (rel_refuse TooDeep Unexpected other_deep)
 
     deeper_zero : Opens TooDeep (r.under m text 0) (r.under m text 1)
-    unfolding r.under r.stars r.parens r.star r.listed r.nots r.signed
+    unfolding r.under r.parens r.counted r.listed r.choices r.nots r.signed
     deeper_zero =
         let u = r.under m text 0 in
         let w = g.depth m text 0 in
         let v = level m text 0 in
         record {
           parens = opened _ (λ t ts. within_good _ free _ (fits_closed m text w u v t) ts);
-          star = opened _ (λ t ts. within_good _ free _ fits_closed_star ts);
+          counted = opened _ (λ t ts. within_good _ free _ (fits_closed_count m text w u v) ts);
           list = opened _ (λ t ts. within_good _ free _ (fits_closed_sums m text w u v) ts);
+          choices = opened _ (λ t ts. within_good _ free _ (fits_closed_choices m text w u v) ts);
           nots = λ s t h. rel_opening TooDeep Unexpected (is k.Not) _ s t (λ x ts. within_good _ (of pred_stops) _ (fits_negation m text w u v x) ts) h;
           signed = λ s t h. rel_opening TooDeep Unexpected (of signs) _ s t (λ x ts. within_good _ (of atom_stops) _ (fits_after_sign m text w u v x) ts) h;
         }
 
     deeper : (i : ℕ) → Opens TooDeep (r.under m text i) (r.under m text (suc i))
-    unfolding r.under r.stars
+    unfolding r.under
     deeper zero = deeper_zero
     deeper (suc i) =
         let u = r.under m text i in
@@ -223,8 +226,9 @@ module _ (a b d : Bool) where
         let e = eases_levels in
         record {
           parens = rel_shut TooDeep other_deep (r.parens m text u) (r.parens m text v) (rel_parens TooDeep m m e text u v o);
-          star = rel_shut TooDeep other_deep r.star r.star (rel_star TooDeep other_deep);
+          counted = rel_shut TooDeep other_deep (r.counted m text u) (r.counted m text v) (rel_counted TooDeep m m e text u v o);
           list = rel_shut TooDeep other_deep (r.listed m text u) (r.listed m text v) (rel_listed TooDeep m m e text u v o);
+          choices = rel_shut TooDeep other_deep (r.choices m text u) (r.choices m text v) (rel_choices TooDeep m m e text u v o);
           nots = λ s t h. rel_either TooDeep (is k.Not) (r.nots m text u) (r.nots m text v) s t (rel_nots TooDeep m m e text u v o) h;
           signed = λ s t h. rel_either TooDeep (of signs) (r.signed m text u) (r.signed m text v) s t (rel_signed TooDeep m m e text u v o) h;
         }

@@ -9,21 +9,16 @@ use Rattle.query_read.specs.declared.fault.Fault.{Fault}
 use Rattle.query_read.specs.declared.fault.Fault.TheVariants.{Unexpected, TooDeep}
 use Rattle.sql_read.specs.Lexis.{Bytes}
 use Rattle.query_read.specs.Asked.{Asked}
-use Rattle.query_read.specs.ExpressionParsers.{nothing_under, one_under, under, stars, opening, shut}
+use Rattle.query_read.specs.ExpressionParsers.{nothing_under, one_under, under, opening, shut}
 
 pub under_none : (m : Asked) (text : Bytes) (n : ℕ) → n ≡ 0 → under m text n ≡ nothing_under
 unfolding under
 under_none m text n e = ap (under m text) e
 
-pub under_more : (m : Asked) (text : Bytes) (n : ℕ) → 0 < n → under m text n ≡ one_under m text (n - 1) (under m text (n - 1))
+pub under_more : (m : Asked) (text : Bytes) (n : ℕ) → 0 < n → under m text n ≡ one_under m text (under m text (n - 1))
 unfolding under
 under_more m text zero h = absurd (omega arith)
-under_more m text (suc n) h = let e : n ≡ suc n - 1 = omega arith in ap (λ k. one_under m text k (under m text k)) e
-
-pub star_is : (m : Asked) (text : Bytes) (n : ℕ) → (under m text n).star ≡ stars n
-unfolding under
-star_is m text zero = refl
-star_is m text (suc n) = refl
+under_more m text (suc n) h = let e : n ≡ suc n - 1 = omega arith in ap (λ k. one_under m text (under m text k)) e
 
 pub shut_is : {A : Type 0} (ts : List Token) → opening {A = A} (refuse TooDeep) ts ≡ Err (shut ts)
 shut_is {A = A} ts = by_test (next (is k.OpenParen) ts)

@@ -54,7 +54,7 @@ real_from (suc left) at (b ∷ z) = real_from left (at + 1) z
 real_from zero at (b ∷ z) =
     let p = front (b ∷ z) in
     list_all-append real (option_to_list (token_of at p)) (tokens_from (p.len - 1) (at + 1) z)
-    ∙ ap (λ c. c && list_all real (tokens_from (p.len - 1) (at + 1) z)) (real_unless p.kind (record { kind = p.kind; at = at; len = p.len; value = p.value }) refl)
+    ∙ ap (λ c. c && list_all real (tokens_from (p.len - 1) (at + 1) z)) (real_unless p.kind (record { kind = p.kind; at = at; len = p.len; value = p.value; scale = p.scale }) refl)
     ∙ real_from (p.len - 1) (at + 1) z
 
 real_past : (x : Kind) → not (same_kind (past_kind x) k.Blank) ≡ true

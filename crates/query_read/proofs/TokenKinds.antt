@@ -1,5 +1,7 @@
 -- What a test says of the tokens of a kind, or of a class of kinds.
-use Rattle.std.proofs.Common.{◌≡◌, Bool, true, false, List, ◌∷◌, length, Err, refl, ◌∙◌, inr}
+use Rattle.std.proofs.Common.{◌≡◌, Bool, true, false, not, List, ◌∷◌, length, Err, refl, ◌∙◌, inr}
+use Rattle.std.specs.List.{list_all}
+use Rattle.std.proofs.lemmas.Bool.{and_parts}
 use denote.Enum.Bare.{true_same}
 use Rattle.phrases.specs.declared.refusal.ReadError.TheVariants.{Refused}
 use Rattle.phrases.specs.Phrases.{Phrase, Both, nothing, token, ◌<|>◌}
@@ -16,7 +18,7 @@ use Rattle.sql_read.specs.Schema.{is, word}
 use Rattle.sql_read.proofs.GoodSchema.{of_kind}
 use Rattle.query_read.specs.declared.fault.Fault.TheVariants.{Unexpected}
 use Rattle.query_read.specs.Classes.{multiplies, ranges, joins}
-use Rattle.query_read.specs.Nodes.{signs, steps, compares, aggregates, of}
+use Rattle.query_read.specs.Nodes.{signs, steps, compares, numerals, aggregates, of}
 use Rattle.query_read.specs.Expressions as g
 use Rattle.query_read.specs.ExpressionParsers.{Parser, expect, expect_of, opening}
 
@@ -63,6 +65,11 @@ aggregates_are f c a b d e k.Max h = d
 aggregates_are f c a b d e k.Avg h = e
 aggregates_are f c a b d e x h = absurd (cc)
 
+pub numerals_are : (f : Kind → Bool) (c : Bool) → f k.Digits ≡ c → f k.Fraction ≡ c → (x : Kind) → numerals x ≡ true → f x ≡ c
+numerals_are f c a b k.Digits h = a
+numerals_are f c a b k.Fraction h = b
+numerals_are f c a b x h = absurd (cc)
+
 pub joins_are : (f : Kind → Bool) (c : Bool) → f k.Comma ≡ c → f k.Cross ≡ c → f k.Inner ≡ c → f k.Join ≡ c → (x : Kind) → joins x ≡ true → f x ≡ c
 joins_are f c a b d e k.Comma h = a
 joins_are f c a b d e k.Cross h = b
@@ -70,10 +77,25 @@ joins_are f c a b d e k.Inner h = d
 joins_are f c a b d e k.Join h = e
 joins_are f c a b d e x h = absurd (cc)
 
+-- ---- a test that none of some kinds passes
+
+abbrev pub apart : List Kind → (Kind → Bool) → Bool
+apart kinds f = list_all (λ x. not (f x)) kinds
+
+not_true : (b : Bool) → not b ≡ true → b ≡ false
+not_true true h = absurd (cc)
+not_true false h = refl
+
+pub first_apart : (x : Kind) (kinds : List Kind) (f : Kind → Bool) → apart (x ∷ kinds) f ≡ true → f x ≡ false
+first_apart x kinds f h = not_true (f x) (and_parts (not (f x)) (apart kinds f) h).0
+
+pub others_apart : (x : Kind) (kinds : List Kind) (f : Kind → Bool) → apart (x ∷ kinds) f ≡ true → apart kinds f ≡ true
+others_apart x kinds f h = (and_parts (not (f x)) (apart kinds f) h).1
+
 -- ---- one token
 
 pub token_of : Kind → Token
-token_of kind = record { kind = kind; at = 0; len = 0; value = 0 }
+token_of kind = record { kind = kind; at = 0; len = 0; value = 0; scale = 0 }
 
 pub some_word : (kind : Kind) → Some (word kind)
 unfolding same_kind token_of

@@ -4,7 +4,7 @@ use Rattle.sql_read.specs.declared.kind.Kind.{Kind}
 use Rattle.sql_read.specs.declared.kind.Kind.TheVariants as k
 use Rattle.query_read.specs.declared.expecting.Class.{Class}
 use Rattle.query_read.specs.declared.expecting.Class.TheVariants as class
-use Rattle.query_read.specs.Nodes.{signs, steps, compares, aggregates}
+use Rattle.query_read.specs.Nodes.{signs, steps, compares, numerals, aggregates}
 
 -- * and /
 abbrev pub multiplies : Kind → Bool
@@ -32,5 +32,6 @@ kinds class.Step = steps
 kinds class.Factor = multiplies
 kinds class.Comparison = compares
 kinds class.Range = ranges
+kinds class.Numeral = numerals
 kinds class.Aggregate = aggregates
 kinds class.Join = joins

@@ -3,7 +3,7 @@ use Rattle.std.specs.Prelude.{◌≡◌, ℕ, [], ◌∷◌, ◌++◌, replicate
 use Rattle.sql_read.specs.declared.refusal.SqlKind.{SqlKind}
 use Rattle.sql_read.specs.declared.refusal.SqlKind.TheVariants.{BadToken, NumberTooWide, Unexpected, TooDeep, DateRange}
 use Rattle.sql_read.specs.declared.refusal.SqlRefusal.TheVariants.{Bad}
-use Rattle.query_trees.specs.declared.expr.AggregateKind.TheVariants.{Sum}
+use Rattle.query_trees.specs.declared.expr.AggregateKind.TheVariants.{Count, Sum}
 use Rattle.query_trees.specs.declared.expr.BinaryOp.{BinaryOp}
 use Rattle.query_trees.specs.declared.expr.BinaryOp.TheVariants as op
 use Rattle.query_trees.specs.declared.expr.ColumnName.{ColumnName}
@@ -36,7 +36,11 @@ abbrev pub column : ℕ → Bytes → Expr
 column at name = node at (f.Column (column_at at name))
 
 abbrev pub number : ℕ → ℕ → Expr
-number at n = node at (f.Number n)
+number at n = node at (f.Number n 0)
+
+-- a number with so many digits after its point
+abbrev pub decimal : ℕ → ℕ → ℕ → Expr
+decimal at n scale = node at (f.Number n scale)
 
 -- two expressions about an operator at this byte
 abbrev pub binary : BinaryOp → ℕ → Expr → Expr → Expr
@@ -111,6 +115,16 @@ WorkedQueries =
     × IsReadAs (codes "SELECT * FROM t WHERE d < DATE '1998-12-01' - INTERVAL '90' DAY") (rows_where (binary op.Less 24 (column 22 (codes "d")) (node 26 (f.Date (pos 10471)))))
     -- two quotes in a row are one
     × IsReadAs (codes "SELECT * FROM t WHERE s = 'it''s'") (rows_where (binary op.Equal 24 (column 22 (codes "s")) (node 26 (f.Text (codes "it's")))))
+    -- a number with a point is its digits, and how many of them stand after the point
+    × IsReadAs (codes "SELECT * FROM t WHERE a < -0.050") (rows_where (binary op.Less 24 (column 22 (codes "a")) (node 26 (f.Signed Minus (decimal 27 50 3)))))
+    -- IS NULL stands at its IS, and NOT before it is an operator of its own
+    × IsReadAs (codes "SELECT * FROM t WHERE NOT a IS NULL OR b IS NOT NULL") (rows_where (
+    binary op.Or 36 (node 22 (f.Not (node 26 (f.IsNull Plain 28 (column 26 (codes "a")))))) (node 39 (f.IsNull Negated 41 (column 39 (codes "b"))))))
+    -- COALESCE has two operands or more, and COUNT an expression
+    × IsReadAs (codes "SELECT * FROM t WHERE COALESCE(a, 0.5, 1) > COUNT(b)") (rows_where (
+    binary op.Greater 42
+    (node 22 (f.Coalesce (column 31 (codes "a")) (decimal 34 5 1 ∷ number 39 1 ∷ [])))
+    (node 44 (f.Aggregate Count (column 50 (codes "b"))))))
     -- ---- first refusals
     × IsRefusedFor (codes "SELECT a FROM\n") 14 Unexpected
     × IsRefusedFor (codes "SELECT a FROM t t t") 18 Unexpected
@@ -126,3 +140,15 @@ WorkedQueries =
     -- 64 levels may be open at once
     × IsRefusedFor (codes "SELECT " ++ replicate 65 40) 71 TooDeep
     × IsRefusedFor (codes "SELECT " ++ replicate 64 40) 71 Unexpected
+    × IsRefusedFor (codes "SELECT " ++ replicate 64 40 ++ codes "COUNT(") 76 TooDeep
+    × IsRefusedFor (codes "SELECT " ++ replicate 64 40 ++ codes "COALESCE(") 79 TooDeep
+    -- the NOT of IS NOT NULL opens none
+    × IsRefusedFor (codes "SELECT " ++ replicate 64 40 ++ codes "a IS NOT NULL") 84 Unexpected
+    -- a divisor and the place of a key are integers
+    × IsRefusedFor (codes "SELECT a / 1.5 FROM t") 11 Unexpected
+    × IsRefusedFor (codes "SELECT a FROM t ORDER BY 1.5") 25 Unexpected
+    × IsRefusedFor (codes "SELECT 5. FROM t") 8 Unexpected
+    × IsRefusedFor (codes "SELECT 0.0000000000000000001 FROM t") 7 NumberTooWide
+    × IsRefusedFor (codes "SELECT COALESCE(a) FROM t") 17 Unexpected
+    × IsRefusedFor (codes "SELECT a FROM t WHERE a = NULL") 26 Unexpected
+    × IsRefusedFor (codes "SELECT a FROM t WHERE a IS NOT 1") 31 Unexpected

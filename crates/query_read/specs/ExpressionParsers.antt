@@ -1,5 +1,5 @@
 -- The grammar of expressions, rule by rule as parsers that decide by the next token.
-use Rattle.std.specs.Prelude.{ℕ, zero, suc, Bool, ◌&&◌, if◌then◌else◌, length, List, [], ◌∷◌, ◌++◌, Some, None, ℤ}
+use Rattle.std.specs.Prelude.{ℕ, zero, suc, Bool, ◌&&◌, if◌then◌else◌, length, List, [], ◌∷◌, ◌++◌, Option, Some, None, ℤ}
 use Rattle.phrases.specs.Parsers as p
 use Rattle.phrases.specs.declared.refusal.ReadError.{ReadError}
 use Rattle.phrases.specs.declared.refusal.ReadError.TheVariants.{Refused}
@@ -20,12 +20,13 @@ use Rattle.query_trees.specs.declared.expr.Divisor.{Divisor}
 use Rattle.query_trees.specs.declared.expr.Expr.{Expr}
 use Rattle.query_trees.specs.declared.expr.Form.TheVariants as f
 use Rattle.query_read.specs.declared.enclosing.Enclosure.{Enclosure}
+use Rattle.query_read.specs.declared.enclosing.Choices.{Choices}
 use Rattle.query_read.specs.Asked.{Asked}
 use Rattle.query_read.specs.Literals.{content}
 use Rattle.query_read.specs.Days.{day_at, span_at, moved, no_date, no_span, leaves}
 use Rattle.query_read.specs.Classes.{multiplies, ranges}
 use Rattle.query_trees.specs.Nodes.{node}
-use Rattle.query_read.specs.Nodes.{signs, steps, compares, aggregates, of, sign_of, sum_op, comparison, aggregate_of, binary, divisor_of, divided, enclosure, bare, qualified}
+use Rattle.query_read.specs.Nodes.{signs, steps, compares, numerals, aggregates, of, sign_of, sum_op, comparison, aggregate_of, numbered, binary, divisor_of, divided, counted_node, choice, chosen, enclosure, bare, qualified}
 
 abbrev pub Parser : Type 0 → Type 0
 Parser A = p.Parser Token Fault A
@@ -95,13 +96,14 @@ date m text = do
 -- what opens a level, in so many levels more
 pub record Under : Type 0 where
   pub parens : Parser Enclosure
-  pub star : Parser Token
+  pub counted : Parser (Option Expr)
   pub list : Parser (List Expr)
+  pub choices : Parser Choices
   pub nots : Parser Expr
   pub signed : Parser Expr
 
 unfoldable pub number : Parser Expr
-number = do t ← expect k.Digits; pure (node t.at (f.Number t.value))
+number = do t ← expect_of numerals; pure (numbered t)
 
 unfoldable pub literal : Bytes → Parser Expr
 literal text = do t ← expect k.Quoted; pure (node t.at (f.Text (content text t)))
@@ -109,12 +111,14 @@ literal text = do t ← expect k.Quoted; pure (node t.at (f.Text (content text t
 unfoldable pub reference : Bytes → Parser Expr
 reference text = do c ← column text; pure (node c.at (f.Column c))
 
--- over the parser of "(" "*" ")"
-unfoldable pub count : Parser Token → Parser Expr
-count stars = do t ← expect k.Count; stars; pure (node t.at f.CountAll)
+unfoldable pub count : Under → Parser Expr
+count u = do t ← expect k.Count; x ← u.counted; pure (counted_node t x)
 
 unfoldable pub aggregate : Under → Parser Expr
 aggregate u = do t ← expect_of aggregates; x ← u.parens; pure (node t.at (f.Aggregate (aggregate_of t.kind) x.value))
+
+unfoldable pub coalesce : Under → Parser Expr
+coalesce u = do t ← expect k.Coalesce; x ← u.choices; pure (chosen t x)
 
 unfoldable pub enclosed : Under → Parser Expr
 enclosed u = do x ← u.parens; pure (node x.at (f.Enclosed x.value))
@@ -128,18 +132,25 @@ divisor =
 unfoldable pub over : Expr → Parser Expr
 over a = do t ← expect k.Slash; v ← divisor; pure (divided t.at a v)
 
+unfoldable pub polarity : Parser Polarity
+polarity = either (is k.Not) (do expect k.Not; pure Negated) (pure Plain)
+
+unfoldable pub nullity : Expr → Parser Expr
+nullity a = do t ← expect k.Is; p ← polarity; expect k.Null; pure (node a.at (f.IsNull p t.at a))
+
 unfoldable pub operation : Kind → BinaryOp → Parser Expr → Expr → Parser Expr
 operation kind o q a = do t ← expect kind; b ← q; pure (binary o t.at a b)
 
 unfoldable pub atom : Asked → Bytes → Under → Parser Expr
 atom m text u =
-    either (is k.Digits) number
+    either (of numerals) number
     (either (is k.Quoted) (literal text)
     (either (is k.Date) (date m text)
     (either (is k.Name) (reference text)
-    (either (is k.Count) (count u.star)
+    (either (is k.Count) (count u)
     (either (of aggregates) (aggregate u)
-    (enclosed u))))))
+    (either (is k.Coalesce) (coalesce u)
+    (enclosed u)))))))
 
 unfoldable pub factor : Asked → Bytes → Under → Parser Expr
 factor m text u = either (of signs) u.signed (atom m text u)
@@ -187,7 +198,8 @@ predicate_tail m text u a =
     either (of compares) (compared m text u a)
     (either (is k.Not) (negated m text u a)
     (either (of ranges) (ranged m text u Plain a)
-    (pure a)))
+    (either (is k.Is) (nullity a)
+    (pure a))))
 
 unfoldable pub pred : Asked → Bytes → Under → Parser Expr
 pred m text u = sum m text u >>= predicate_tail m text u
@@ -208,14 +220,23 @@ parens m text u = do t ← expect k.OpenParen; a ← expr m text u; expect k.Clo
 unfoldable pub listed : Asked → Bytes → Under → Parser (List Expr)
 listed m text u = do expect k.OpenParen; xs ← series (sum m text u); expect k.CloseParen; pure xs
 
+unfoldable pub star_or_expr : Asked → Bytes → Under → Parser (Option Expr)
+star_or_expr m text u = either (is k.Star) (do expect k.Star; pure None) (do a ← expr m text u; pure (Some a))
+
+unfoldable pub counted : Asked → Bytes → Under → Parser (Option Expr)
+counted m text u = do expect k.OpenParen; x ← star_or_expr m text u; expect k.CloseParen; pure x
+
+unfoldable pub alternatives : Asked → Bytes → Under → Parser Choices
+alternatives m text u = do a ← expr m text u; expect k.Comma; xs ← series (expr m text u); pure (choice a xs)
+
+unfoldable pub choices : Asked → Bytes → Under → Parser Choices
+choices m text u = do expect k.OpenParen; x ← alternatives m text u; expect k.CloseParen; pure x
+
 unfoldable pub nots : Asked → Bytes → Under → Parser Expr
 nots m text u = do t ← expect k.Not; a ← neg m text u; pure (node t.at (f.Not a))
 
 unfoldable pub signed : Asked → Bytes → Under → Parser Expr
 signed m text u = do s ← expect_of signs; a ← atom m text u; pure (node s.at (f.Signed (sign_of s.kind) a))
-
-unfoldable pub star : Parser Token
-star = do expect k.OpenParen; s ← expect k.Star; expect k.CloseParen; pure s
 
 -- a parenthesis and what it opens
 abbrev pub opening : {A : Type 0} → Parser A → Parser A
@@ -225,18 +246,28 @@ opening q = either (is k.OpenParen) q (refuse Unexpected)
 abbrev pub shut : List Token → ReadError Fault
 shut ts = if next (is k.OpenParen) ts then Refused TooDeep (length ts) else Refused Unexpected (length ts)
 
--- where so many levels may still be opened
-unfoldable pub stars : ℕ → Parser Token
-stars zero = opening (refuse TooDeep)
-stars (suc n) = opening star
-
+-- where no level may be opened
 abbrev pub nothing_under : Under
-nothing_under = record { parens = opening (refuse TooDeep); star = stars zero; list = opening (refuse TooDeep); nots = refuse TooDeep; signed = refuse TooDeep }
+nothing_under = record {
+  parens = opening (refuse TooDeep);
+  counted = opening (refuse TooDeep);
+  list = opening (refuse TooDeep);
+  choices = opening (refuse TooDeep);
+  nots = refuse TooDeep;
+  signed = refuse TooDeep;
+}
 
-abbrev pub one_under : Asked → Bytes → ℕ → Under → Under
-one_under m text n u = record { parens = opening (parens m text u); star = stars (suc n); list = opening (listed m text u); nots = nots m text u; signed = signed m text u }
+abbrev pub one_under : Asked → Bytes → Under → Under
+one_under m text u = record {
+  parens = opening (parens m text u);
+  counted = opening (counted m text u);
+  list = opening (listed m text u);
+  choices = opening (choices m text u);
+  nots = nots m text u;
+  signed = signed m text u;
+}
 
 -- what may open so many levels
 unfoldable pub under : Asked → Bytes → ℕ → Under
 under m text zero = nothing_under
-under m text (suc n) = one_under m text n (under m text n)
+under m text (suc n) = one_under m text (under m text n)

@@ -1,6 +1,6 @@
 -- The grammar of expressions, over the tokens of a text: which tokens are which expression.
--- After SQL-92 (ISO/IEC 9075:1992), 6.4 <column reference>, 6.5 <set function specification>, 6.12 <numeric value expression>, 8.2 to 8.4 and 8.12 <search condition>.
-use Rattle.std.specs.Prelude.{ℕ, zero, suc, Bool, not, ◌&&◌, List, [], ◌∷◌, ◌++◌, Some, None, ℤ, pos}
+-- After SQL-92 (ISO/IEC 9075:1992), 6.4 <column reference>, 6.5 <set function specification>, 6.9 <case abbreviation>, 6.12 <numeric value expression>, 8.2 to 8.4, 8.6 <null predicate> and 8.12 <search condition>.
+use Rattle.std.specs.Prelude.{ℕ, zero, suc, Bool, not, ◌&&◌, List, [], ◌∷◌, ◌++◌, Option, Some, None, ℤ, pos}
 use Rattle.phrases.specs.Phrases.{Phrase, token, nothing, none, ◌>>=◌, ◌>>◌, ◌<|>◌, Repeated}
 use Rattle.sql_read.specs.declared.kind.Kind.{Kind}
 use Rattle.sql_read.specs.declared.kind.Kind.TheVariants as k
@@ -16,11 +16,12 @@ use Rattle.query_trees.specs.declared.expr.Divisor.{Divisor}
 use Rattle.query_trees.specs.declared.expr.Expr.{Expr}
 use Rattle.query_trees.specs.declared.expr.Form.TheVariants as f
 use Rattle.query_read.specs.declared.enclosing.Enclosure.{Enclosure}
+use Rattle.query_read.specs.declared.enclosing.Choices.{Choices}
 use Rattle.query_read.specs.Asked.{Asked}
 use Rattle.query_read.specs.Literals.{content}
 use Rattle.query_read.specs.Days.{day_at, span_at, moved, no_date, no_span, leaves}
 use Rattle.query_trees.specs.Nodes.{node}
-use Rattle.query_read.specs.Nodes.{signs, steps, compares, aggregates, of, sign_of, sum_op, comparison, aggregate_of, binary, divisor_of, divided, enclosure, bare, qualified}
+use Rattle.query_read.specs.Nodes.{signs, steps, compares, numerals, aggregates, of, sign_of, sum_op, comparison, aggregate_of, numbered, binary, divisor_of, divided, counted_node, choice, chosen, enclosure, bare, qualified}
 
 -- one token that passes the test, and is not bad
 abbrev pub sound : (Token → Bool) → (Token → Bool) → Phrase Token Token
@@ -81,17 +82,19 @@ date m text = do
 pub record Depth : Type 1 where
   -- "(" expr ")"
   pub parens : Phrase Token Enclosure
-  -- "(" "*" ")"
-  pub star : Phrase Token Token
+  -- "(" ("*" | expr) ")"
+  pub counted : Phrase Token (Option Expr)
   -- "(" sum {"," sum} ")"
   pub list : Phrase Token (List Expr)
+  -- "(" expr "," expr {"," expr} ")"
+  pub choices : Phrase Token Choices
   -- NOT neg
   pub nots : Phrase Token Expr
   -- ("+" | "-") atom
   pub signed : Phrase Token Expr
 
 abbrev pub number : Phrase Token Expr
-number = do t ← word k.Digits; nothing (node t.at (f.Number t.value))
+number = do t ← token (of numerals); nothing (numbered t)
 
 abbrev pub literal : Bytes → Phrase Token Expr
 literal text = do t ← word k.Quoted; nothing (node t.at (f.Text (content text t)))
@@ -99,24 +102,32 @@ literal text = do t ← word k.Quoted; nothing (node t.at (f.Text (content text 
 abbrev pub reference : Bytes → Phrase Token Expr
 reference text = do c ← column text; nothing (node c.at (f.Column c))
 
--- COUNT "(" "*" ")"
+-- COUNT "(" ("*" | expr) ")"
 abbrev pub count : Depth → Phrase Token Expr
-count d = do t ← word k.Count; (d.star >> nothing (node t.at f.CountAll)) <|> gap (node t.at f.CountAll)
+count d = do t ← word k.Count; x ← d.counted <|> gap None; nothing (counted_node t x)
 
+-- what a gap stands for
 abbrev pub nowhere : Enclosure
-nowhere = record { at = 0; value = node 0 (f.Number 0) }
+nowhere = record { at = 0; value = node 0 (f.Number 0 0) }
+
+abbrev pub no_choices : Choices
+no_choices = choice nowhere.value []
 
 -- (SUM | MIN | MAX | AVG) "(" expr ")"
 abbrev pub aggregate : Depth → Phrase Token Expr
 aggregate d = do t ← token (of aggregates); x ← d.parens <|> gap nowhere; nothing (node t.at (f.Aggregate (aggregate_of t.kind) x.value))
 
+-- COALESCE "(" expr "," expr {"," expr} ")"
+abbrev pub coalesce : Depth → Phrase Token Expr
+coalesce d = do t ← word k.Coalesce; x ← d.choices <|> gap no_choices; nothing (chosen t x)
+
 abbrev pub enclosed : Depth → Phrase Token Expr
 enclosed d = do x ← d.parens; nothing (node x.at (f.Enclosed x.value))
 
 module _ (m : Asked) (text : Bytes) (d : Depth) where
-  -- atom = integer | text | date | column | aggregate | "(" expr ")"
+  -- atom = integer | decimal | text | date | column | aggregate | COALESCE "(" expr "," expr {"," expr} ")" | "(" expr ")"
   abbrev pub atom : Phrase Token Expr
-  atom = number <|> (literal text <|> (date m text <|> (reference text <|> (count d <|> (aggregate d <|> enclosed d)))))
+  atom = number <|> (literal text <|> (date m text <|> (reference text <|> (count d <|> (aggregate d <|> (coalesce d <|> enclosed d))))))
 
   -- factor = ["+" | "-"] atom
   abbrev pub factor : Phrase Token Expr
@@ -131,6 +142,14 @@ divisor = (do s ← token (of signs); n ← word k.Digits; nothing (divisor_of (
 
 abbrev pub over : Expr → Phrase Token Expr
 over a = do t ← word k.Slash; v ← divisor; nothing (divided t.at a v)
+
+-- [NOT], before NULL
+abbrev pub polarity : Phrase Token Polarity
+polarity = (word k.Not >> nothing Negated) <|> nothing Plain
+
+-- IS [NOT] NULL
+abbrev pub nullity : Expr → Phrase Token Expr
+nullity a = do t ← word k.Is; p ← polarity; word k.Null; nothing (node a.at (f.IsNull p t.at a))
 
 -- an operator, and what stands to its right
 abbrev pub operation : Kind → BinaryOp → Phrase Token Expr → Expr → Phrase Token Expr
@@ -171,9 +190,9 @@ module _ (m : Asked) (text : Bytes) (d : Depth) where
   abbrev pub negated : Expr → Phrase Token Expr
   negated a = word k.Not >> ranged Negated a
 
-  -- pred = sum [("=" | "<>" | "<" | "<=" | ">" | ">=") sum | [NOT] BETWEEN sum AND sum | [NOT] IN "(" sum {"," sum} ")"]
+  -- pred = sum [("=" | "<>" | "<" | "<=" | ">" | ">=") sum | [NOT] BETWEEN sum AND sum | [NOT] IN "(" sum {"," sum} ")" | IS [NOT] NULL]
   abbrev pub predicate_tail : Expr → Phrase Token Expr
-  predicate_tail a = compared a <|> (negated a <|> (ranged Plain a <|> nothing a))
+  predicate_tail a = compared a <|> (negated a <|> (ranged Plain a <|> (nullity a <|> nothing a)))
 
   abbrev pub pred : Phrase Token Expr
   pred = sum >>= predicate_tail
@@ -197,18 +216,27 @@ module _ (m : Asked) (text : Bytes) (d : Depth) where
   abbrev pub listed : Phrase Token (List Expr)
   listed = do word k.OpenParen; xs ← series sum; word k.CloseParen; nothing xs
 
+  abbrev pub star_or_expr : Phrase Token (Option Expr)
+  star_or_expr = (word k.Star >> nothing None) <|> (do a ← expr; nothing (Some a))
+
+  abbrev pub counted : Phrase Token (Option Expr)
+  counted = do word k.OpenParen; x ← star_or_expr; word k.CloseParen; nothing x
+
+  abbrev pub alternatives : Phrase Token Choices
+  alternatives = do a ← expr; word k.Comma; xs ← series expr; nothing (choice a xs)
+
+  abbrev pub choices : Phrase Token Choices
+  choices = do word k.OpenParen; x ← alternatives; word k.CloseParen; nothing x
+
   abbrev pub nots : Phrase Token Expr
   nots = do t ← word k.Not; a ← neg; nothing (node t.at (f.Not a))
 
   abbrev pub signed : Phrase Token Expr
   signed = do s ← token (of signs); a ← atom m text d; nothing (node s.at (f.Signed (sign_of s.kind) a))
 
-abbrev pub star : Phrase Token Token
-star = do word k.OpenParen; s ← word k.Star; word k.CloseParen; nothing s
-
 -- what may open so many levels
 unfoldable pub depth : Asked → Bytes → ℕ → Depth
-depth m text zero = record { parens = none; star = none; list = none; nots = none; signed = none }
+depth m text zero = record { parens = none; counted = none; list = none; choices = none; nots = none; signed = none }
 depth m text (suc n) =
     let d = depth m text n in
-    record { parens = parens m text d; star = star; list = listed m text d; nots = nots m text d; signed = signed m text d }
+    record { parens = parens m text d; counted = counted m text d; list = listed m text d; choices = choices m text d; nots = nots m text d; signed = signed m text d }

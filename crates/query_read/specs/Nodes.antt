@@ -27,6 +27,7 @@ use Rattle.query_trees.specs.declared.clauses.Direction.TheVariants.{Ascending}
 use Rattle.query_trees.specs.declared.query.Query.{Query}
 use Rattle.query_trees.specs.Nodes.{node}
 use Rattle.query_read.specs.declared.enclosing.Enclosure.{Enclosure}
+use Rattle.query_read.specs.declared.enclosing.Choices.{Choices}
 use Rattle.query_read.specs.declared.grouping.Grouping.{Grouping}
 
 -- ---- kinds of tokens
@@ -52,6 +53,12 @@ compares k.LessEqual = true
 compares k.Greater = true
 compares k.GreaterEqual = true
 compares kind = false
+
+-- an integer, or a number with a point
+abbrev pub numerals : Kind → Bool
+numerals k.Digits = true
+numerals k.Fraction = true
+numerals kind = false
 
 -- SUM, MIN, MAX, AVG
 abbrev pub aggregates : Kind → Bool
@@ -90,6 +97,10 @@ aggregate_of kind = aggregate.Sum
 
 -- ---- expressions
 
+-- a number by its digits, and how many of them stand after its point
+abbrev pub numbered : Token → Expr
+numbered t = node t.at (f.Number t.value t.scale)
+
 -- two expressions, from the first byte of the left one on
 abbrev pub binary : BinaryOp → ℕ → Expr → Expr → Expr
 binary o at a b = node a.at (f.Binary o at a b)
@@ -99,6 +110,17 @@ divisor_of s n = record { sign = s; value = n.value; value_at = n.at }
 
 abbrev pub divided : ℕ → Expr → Divisor → Expr
 divided at a v = node a.at (f.Divide at a v)
+
+-- COUNT of all rows, or of an expression
+abbrev pub counted_node : Token → Option Expr → Expr
+counted_node t None = node t.at f.CountAll
+counted_node t (Some a) = node t.at (f.Aggregate aggregate.Count a)
+
+abbrev pub choice : Expr → List Expr → Choices
+choice a xs = record { first = a; others = xs }
+
+abbrev pub chosen : Token → Choices → Expr
+chosen t x = node t.at (f.Coalesce x.first x.others)
 
 abbrev pub enclosure : Token → Expr → Enclosure
 enclosure t a = record { at = t.at; value = a }

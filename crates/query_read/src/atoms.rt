@@ -4,21 +4,22 @@ ghost use Rattle.std.specs.Prelude.{◌≡◌};
 ghost use Rattle.phrases.specs.Parsers.{Reads};
 ghost use Rattle.query_read.specs.ExpressionParsers as spec;
 
-use crate::expecting::{Class, expect, expect_of, is_next_of, refused};
+use crate::expecting::{Class, expect, expect_of, is_next_of};
 use crate::fault::Fault;
 use crate::literals::content;
-use crate::nodes::{bare, divided, divisor_of, qualified, sign_of};
+use crate::nodes::{bare, divided, divisor_of, null_node, qualified, sign_of};
 use phrases::{Cursor, ReadError};
-use query_trees::{ColumnName, Divisor, Expr, Form, node};
+use query_trees::{ColumnName, Divisor, Expr, Form, Polarity, node};
 use sql_read::{Kind, Token, is_next};
 use std::alloc::Global;
 
+/// An integer, or a number with a point.
 #[tactic(auto, unfolding(crate::specs::ExpressionParsers::number))]
 pub fn number(alloc: Global, tokens: &mut Cursor<'_, Token>) -> Result<Expr, ReadError<Fault>>
     ensures { Reads (spec.number tokens.old) result tokens.new }
 {
-    let t = expect(tokens, Kind::Digits)?;
-    Ok(node(alloc, t.at, Form::Number(t.value))?)
+    let t = expect_of(tokens, Class::Numeral)?;
+    Ok(node(alloc, t.at, Form::Number(t.value, t.scale))?)
 }
 
 #[tactic(auto, unfolding(crate::specs::ExpressionParsers::literal))]
@@ -95,33 +96,29 @@ pub fn over(
     Ok(divided(alloc, t.at, a, by)?)
 }
 
-/// `"(" "*" ")"`, where so many levels may still be opened.
-#[tactic(auto, unfolding(crate::specs::ExpressionParsers::stars, crate::specs::ExpressionParsers::star))]
-fn stars(tokens: &mut Cursor<'_, Token>, levels: u8) -> Result<Token, ReadError<Fault>>
-    ensures { Reads (spec.stars levels tokens.old) result tokens.new }
+#[tactic(auto, unfolding(crate::specs::ExpressionParsers::polarity))]
+fn polarity(tokens: &mut Cursor<'_, Token>) -> Result<Polarity, ReadError<Fault>>
+    ensures { Reads (spec.polarity tokens.old) result tokens.new }
 {
-    if !is_next(tokens, Kind::OpenParen) {
-        return Err(refused(tokens, Fault::Unexpected));
+    if is_next(tokens, Kind::Not) {
+        expect(tokens, Kind::Not)?;
+        Ok(Polarity::Negated)
+    } else {
+        Ok(Polarity::Plain)
     }
-    if levels == 0 {
-        return Err(refused(tokens, Fault::TooDeep));
-    }
-    expect(tokens, Kind::OpenParen)?;
-    let s = expect(tokens, Kind::Star)?;
-    expect(tokens, Kind::CloseParen)?;
-    Ok(s)
 }
 
-/// `COUNT(*)`.
-#[tactic(auto, unfolding(crate::specs::ExpressionParsers::count))]
-pub fn count(
+/// `IS [NOT] NULL`, of what stands to the left.
+#[tactic(auto, unfolding(crate::specs::ExpressionParsers::nullity))]
+pub fn nullity(
     alloc: Global,
     tokens: &mut Cursor<'_, Token>,
-    levels: u8,
+    a: Expr,
 ) -> Result<Expr, ReadError<Fault>>
-    ensures { Reads (spec.count (spec.stars levels) tokens.old) result tokens.new }
+    ensures { Reads (spec.nullity a tokens.old) result tokens.new }
 {
-    let t = expect(tokens, Kind::Count)?;
-    stars(tokens, levels)?;
-    Ok(node(alloc, t.at, Form::CountAll)?)
+    let at = expect(tokens, Kind::Is)?.at;
+    let polarity = polarity(tokens)?;
+    expect(tokens, Kind::Null)?;
+    Ok(null_node(alloc, polarity, at, a)?)
 }

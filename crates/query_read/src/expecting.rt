@@ -24,6 +24,8 @@ pub enum Class {
     Comparison,
     /// BETWEEN and IN.
     Range,
+    /// Integers, and numbers with a point.
+    Numeral,
     /// SUM, MIN, MAX and AVG.
     Aggregate,
     /// What begins a table that is added: a comma, CROSS, INNER and JOIN.
@@ -39,6 +41,7 @@ fn is_in(class: Class, kind: Kind) -> bool
         Class::Factor => matches!(kind, Kind::Star | Kind::Slash),
         Class::Comparison => is_comparison(kind),
         Class::Range => matches!(kind, Kind::Between | Kind::In),
+        Class::Numeral => matches!(kind, Kind::Digits | Kind::Fraction),
         Class::Aggregate => matches!(kind, Kind::Sum | Kind::Min | Kind::Max | Kind::Avg),
         Class::Join => matches!(kind, Kind::Comma | Kind::Cross | Kind::Inner | Kind::Join),
     }

@@ -5,19 +5,22 @@ ghost use Rattle.phrases.specs.Parsers.{Reads};
 ghost use Rattle.query_read.specs.Asked as asked;
 ghost use Rattle.query_read.specs.ExpressionParsers as spec;
 
-use crate::atoms::{count, literal, number, over, reference};
+use crate::atoms::{literal, nullity, number, over, reference};
 use crate::dates::date;
-use crate::enclosing::Enclosure;
+use crate::enclosing::{Choices, Enclosure};
 use crate::expecting::{Class, expect, expect_of, is_next_of, refused, shut};
 use crate::fault::Fault;
-use crate::nodes::{aggregated, between_node, binary, comparison, in_node, signed_node, sum_op};
+use crate::nodes::{
+    aggregated, between_node, binary, chosen, comparison, counted_node, in_node, signed_node,
+    sum_op,
+};
 use phrases::{Cursor, ReadError};
 use query_trees::{BinaryOp, Expr, Form, Polarity, node};
 use sql_read::{Kind, Token, is_next};
 use sqlite_items::Items;
 use std::alloc::Global;
 
-/// `atom = integer | text | date | column | aggregate | "(" expr ")"`
+/// `atom = integer | decimal | text | date | column | aggregate | COALESCE "(" expr "," expr {"," expr} ")" | "(" expr ")"`
 #[cycle(expr)]
 #[tactic(auto, unfolding(crate::specs::ExpressionParsers::atom))]
 fn atom(
@@ -28,7 +31,7 @@ fn atom(
 ) -> Result<Expr, ReadError<Fault>>
     ensures { Reads (spec.atom asked.all text.now (spec.under asked.all text.now levels) tokens.old) result tokens.new }
 {
-    if is_next(tokens, Kind::Digits) {
+    if is_next_of(tokens, Class::Numeral) {
         number(alloc, tokens)
     } else if is_next(tokens, Kind::Quoted) {
         literal(alloc, text, tokens)
@@ -37,12 +40,162 @@ fn atom(
     } else if is_next(tokens, Kind::Name) {
         reference(alloc, text, tokens)
     } else if is_next(tokens, Kind::Count) {
-        count(alloc, tokens, levels)
+        count(alloc, text, tokens, levels)
     } else if is_next_of(tokens, Class::Aggregate) {
         aggregate(alloc, text, tokens, levels)
+    } else if is_next(tokens, Kind::Coalesce) {
+        coalesce(alloc, text, tokens, levels)
     } else {
         enclosed(alloc, text, tokens, levels)
     }
+}
+
+/// `COUNT "(" ("*" | expr) ")"`
+#[cycle(expr)]
+#[tactic(auto, unfolding(crate::specs::ExpressionParsers::count))]
+fn count(
+    alloc: Global,
+    text: &[u8],
+    tokens: &mut Cursor<'_, Token>,
+    levels: u8,
+) -> Result<Expr, ReadError<Fault>>
+    ensures { Reads (spec.count (spec.under asked.all text.now levels) tokens.old) result tokens.new }
+{
+    let t = expect(tokens, Kind::Count)?;
+    let of = counted(alloc, text, tokens, levels)?;
+    Ok(counted_node(alloc, t, of)?)
+}
+
+/// `"(" ("*" | expr) ")"`: the expression, or none for all rows.
+#[cycle(expr)]
+#[tactic(auto, unfolding(crate::specs::ExpressionParsers::counted))]
+fn counted(
+    alloc: Global,
+    text: &[u8],
+    tokens: &mut Cursor<'_, Token>,
+    levels: u8,
+) -> Result<Option<Expr>, ReadError<Fault>>
+    ensures { Reads ((spec.under asked.all text.now levels).counted tokens.old) result tokens.new }
+{
+    if levels == 0 {
+        return Err(shut(tokens));
+    }
+    if !is_next(tokens, Kind::OpenParen) {
+        return Err(refused(tokens, Fault::Unexpected));
+    }
+    expect(tokens, Kind::OpenParen)?;
+    let of = star_or_expr(alloc, text, tokens, levels - 1)?;
+    expect(tokens, Kind::CloseParen)?;
+    Ok(of)
+}
+
+#[cycle(expr)]
+#[tactic(auto, unfolding(crate::specs::ExpressionParsers::star_or_expr))]
+fn star_or_expr(
+    alloc: Global,
+    text: &[u8],
+    tokens: &mut Cursor<'_, Token>,
+    levels: u8,
+) -> Result<Option<Expr>, ReadError<Fault>>
+    ensures { Reads (spec.star_or_expr asked.all text.now (spec.under asked.all text.now levels) tokens.old) result tokens.new }
+{
+    if is_next(tokens, Kind::Star) {
+        expect(tokens, Kind::Star)?;
+        Ok(None)
+    } else {
+        Ok(Some(expr(alloc, text, tokens, levels)?))
+    }
+}
+
+#[cycle(expr)]
+#[tactic(auto, unfolding(crate::specs::ExpressionParsers::coalesce))]
+fn coalesce(
+    alloc: Global,
+    text: &[u8],
+    tokens: &mut Cursor<'_, Token>,
+    levels: u8,
+) -> Result<Expr, ReadError<Fault>>
+    ensures { Reads (spec.coalesce (spec.under asked.all text.now levels) tokens.old) result tokens.new }
+{
+    let t = expect(tokens, Kind::Coalesce)?;
+    let from = choices(alloc, text, tokens, levels)?;
+    Ok(chosen(alloc, t, from)?)
+}
+
+/// `"(" expr "," expr {"," expr} ")"`
+#[cycle(expr)]
+#[tactic(auto, unfolding(crate::specs::ExpressionParsers::choices))]
+fn choices(
+    alloc: Global,
+    text: &[u8],
+    tokens: &mut Cursor<'_, Token>,
+    levels: u8,
+) -> Result<Choices, ReadError<Fault>>
+    ensures { Reads ((spec.under asked.all text.now levels).choices tokens.old) result tokens.new }
+{
+    if levels == 0 {
+        return Err(shut(tokens));
+    }
+    if !is_next(tokens, Kind::OpenParen) {
+        return Err(refused(tokens, Fault::Unexpected));
+    }
+    expect(tokens, Kind::OpenParen)?;
+    let found = alternatives(alloc, text, tokens, levels - 1)?;
+    expect(tokens, Kind::CloseParen)?;
+    Ok(found)
+}
+
+#[cycle(expr)]
+#[tactic(auto, unfolding(crate::specs::ExpressionParsers::alternatives))]
+fn alternatives(
+    alloc: Global,
+    text: &[u8],
+    tokens: &mut Cursor<'_, Token>,
+    levels: u8,
+) -> Result<Choices, ReadError<Fault>>
+    ensures { Reads (spec.alternatives asked.all text.now (spec.under asked.all text.now levels) tokens.old) result tokens.new }
+{
+    let first = expr(alloc, text, tokens, levels)?;
+    expect(tokens, Kind::Comma)?;
+    let others = exprs(alloc, text, tokens, levels)?;
+    Ok(Choices { first, others })
+}
+
+#[cycle(expr)]
+#[tactic(auto, unfolding(crate::specs::ExpressionParsers::series))]
+fn exprs(
+    alloc: Global,
+    text: &[u8],
+    tokens: &mut Cursor<'_, Token>,
+    levels: u8,
+) -> Result<Items<Expr>, ReadError<Fault>>
+    ensures { Reads (spec.series (spec.expr asked.all text.now (spec.under asked.all text.now levels)) tokens.old) result tokens.new }
+{
+    let first = expr(alloc, text, tokens, levels)?;
+    let mut found = Items::new(alloc);
+    found.push(first)?;
+    more_exprs(alloc, text, tokens, levels, found)
+}
+
+#[cycle(expr)]
+fn more_exprs(
+    alloc: Global,
+    text: &[u8],
+    tokens: &mut Cursor<'_, Token>,
+    levels: u8,
+    found: Items<Expr>,
+) -> Result<Items<Expr>, ReadError<Fault>>
+    ensures { Reads (spec.more (spec.expr asked.all text.now (spec.under asked.all text.now levels)) found tokens.old) result tokens.new }
+{
+    let mut exprs = found;
+    for _turn in 0..tokens.left() {
+        if !is_next(tokens, Kind::Comma) {
+            return Ok(exprs);
+        }
+        expect(tokens, Kind::Comma)?;
+        exprs.push(expr(alloc, text, tokens, levels)?)?;
+    }
+    Ok(exprs)
 }
 
 #[cycle(expr)]
@@ -387,6 +540,8 @@ fn test(
         negated(alloc, text, tokens, levels, a)
     } else if is_next_of(tokens, Class::Range) {
         ranged(alloc, text, tokens, levels, Polarity::Plain, a)
+    } else if is_next(tokens, Kind::Is) {
+        nullity(alloc, tokens, a)
     } else {
         Ok(a)
     }

@@ -4,6 +4,7 @@ ghost use Rattle.std.specs.Prelude.{◌≡◌, IfOk};
 ghost use Rattle.query_read.specs.Nodes as spec;
 ghost use Rattle.query_trees.specs.Nodes as trees;
 
+use crate::enclosing::Choices;
 use query_trees::{AggregateKind, BinaryOp, ColumnName, Divisor, Expr, Form, Polarity, Sign, node};
 use sql_read::{Kind, Token, name_at};
 use sqlite_items::Items;
@@ -82,6 +83,23 @@ pub fn aggregated(alloc: Global, t: Token, of: Expr) -> Result<Expr, AllocError>
     node(alloc, t.at, Form::Aggregate(aggregate_of(t.kind), of))
 }
 
+/// COUNT of an expression, or of all rows where there is none.
+pub fn counted_node(alloc: Global, t: Token, of: Option<Expr>) -> Result<Expr, AllocError>
+    ensures { IfOk result (λ x. x ≡ spec.counted_node t of) }
+{
+    match of {
+        None => node(alloc, t.at, Form::CountAll),
+        Some(a) => node(alloc, t.at, Form::Aggregate(AggregateKind::Count, a)),
+    }
+}
+
+pub fn chosen(alloc: Global, t: Token, from: Choices) -> Result<Expr, AllocError>
+    ensures { IfOk result (λ x. x ≡ spec.chosen t from) }
+{
+    let Choices { first, others } = from;
+    node(alloc, t.at, Form::Coalesce(first, others))
+}
+
 pub fn signed_node(alloc: Global, s: Token, of: Expr) -> Result<Expr, AllocError>
     ensures { IfOk result (λ x. x ≡ trees.node s.at (Form.Signed (spec.sign_of s.kind) of)) }
 {
@@ -113,6 +131,13 @@ pub fn in_node(
 {
     let first = a.at;
     node(alloc, first, Form::In(polarity, at, a, among))
+}
+
+pub fn null_node(alloc: Global, polarity: Polarity, at: u32, a: Expr) -> Result<Expr, AllocError>
+    ensures { IfOk result (λ x. x ≡ trees.node a.at (Form.IsNull polarity at a)) }
+{
+    let first = a.at;
+    node(alloc, first, Form::IsNull(polarity, at, a))
 }
 
 /// A column's name alone.

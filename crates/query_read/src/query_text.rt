@@ -131,7 +131,8 @@ fn read_bytes(alloc: Global, bytes: &[u8]) -> Result<Query, SqlRefusal>
 ///
 /// The text is `SELECT [DISTINCT] list FROM source [WHERE expr] [GROUP BY column {"," column} [HAVING expr]]
 /// [ORDER BY key {"," key}] [";"]`, after SQL-92 (ISO/IEC 9075:1992), clauses 5 to 8 and 13.1. It has at most 2,048 tokens, and
-/// at most 64 levels are open at once: a parenthesis, a NOT before a predicate, or a sign before an atom. A date is one of
+/// at most 64 levels are open at once: a parenthesis, a NOT before a predicate, or a sign before an atom. A number has at most 18
+/// digits after its point, and a value of at most 2^127 - 1 without it; a divisor and the place of a key have no point. A date is one of
 /// 0001-01-01 to 9999-12-31, and each step of date arithmetic stays there.
 pub fn read_query(alloc: Global, bytes: &[u8]) -> Result<Query, SqlRefusal>
     requires { length bytes.now < 2 ^ 32 }

@@ -9,7 +9,7 @@ use Rattle.query_read.specs.Asked.{all}
 use Rattle.query_read.specs.Classes.{multiplies}
 use Rattle.query_read.specs.Nodes.{of, signs}
 use Rattle.query_read.specs.ExpressionParsers as spec
-use Rattle.query_read.proofs.Levels.{under_none, under_more, star_is, shut_is}
+use Rattle.query_read.proofs.Levels.{under_none, under_more, shut_is}
 use Rattle.query_read.proofs.expr.+expr.Goals as goal
 
 pub term-returns-in_err-left : goal.term-returns-in_err-left
@@ -104,6 +104,36 @@ pub more_sums-returns : goal.more_sums-returns
 unfolding turns spec.another
 more_sums-returns t c =
     let e = no_more (λ n. turns (is k.Comma) (spec.another (spec.sum all c.args.text.now (spec.under all c.args.text.now c.args.levels))) n c.loop-turn.sums c.loop-turn.tokens) _ c.loop-turn._turn c.loop-turn-test.false c.loop-turn.invariant in
+    first_of (search rules, grind (arith, common_steps))
+
+pub more_exprs-returns-then-not-is_next : goal.more_exprs-returns-then-not-is_next
+unfolding turns spec.another
+more_exprs-returns-then-not-is_next t c =
+    let e = one_more (λ n. turns (is k.Comma) (spec.another (spec.expr all c.args.text.now (spec.under all c.args.text.now c.args.levels))) n c.loop-turn.exprs c.loop-turn.tokens) _ c.loop-turn._turn c.loop-turn-test.true c.loop-turn.invariant in
+    first_of (search rules, grind (arith, common_steps))
+
+pub more_exprs-returns-in_err-expect : goal.more_exprs-returns-in_err-expect
+unfolding turns spec.another
+more_exprs-returns-in_err-expect t c =
+    let e = one_more (λ n. turns (is k.Comma) (spec.another (spec.expr all c.args.text.now (spec.under all c.args.text.now c.args.levels))) n c.loop-turn.exprs c.loop-turn.tokens) _ c.loop-turn._turn c.loop-turn-test.true c.loop-turn.invariant in
+    first_of (search rules, grind (arith, common_steps))
+
+pub more_exprs-returns-in_err-expr : goal.more_exprs-returns-in_err-expr
+unfolding turns spec.another
+more_exprs-returns-in_err-expr t c =
+    let e = one_more (λ n. turns (is k.Comma) (spec.another (spec.expr all c.args.text.now (spec.under all c.args.text.now c.args.levels))) n c.loop-turn.exprs c.loop-turn.tokens) _ c.loop-turn._turn c.loop-turn-test.true c.loop-turn.invariant in
+    first_of (search rules, grind (arith, common_steps))
+
+pub more_exprs-loop-turn-preserved : goal.more_exprs-loop-turn-preserved
+unfolding turns spec.another
+more_exprs-loop-turn-preserved t c =
+    let e = one_more (λ n. turns (is k.Comma) (spec.another (spec.expr all c.args.text.now (spec.under all c.args.text.now c.args.levels))) n c.loop-turn.exprs c.loop-turn.tokens) _ c.loop-turn._turn c.loop-turn-test.true c.loop-turn.invariant in
+    first_of (search rules, grind (arith, common_steps))
+
+pub more_exprs-returns : goal.more_exprs-returns
+unfolding turns spec.another
+more_exprs-returns t c =
+    let e = no_more (λ n. turns (is k.Comma) (spec.another (spec.expr all c.args.text.now (spec.under all c.args.text.now c.args.levels))) n c.loop-turn.exprs c.loop-turn.tokens) _ c.loop-turn._turn c.loop-turn-test.false c.loop-turn.invariant in
     first_of (search rules, grind (arith, common_steps))
 
 pub conj-returns-in_err-left : goal.conj-returns-in_err-left
@@ -252,6 +282,76 @@ listed-returns t c =
     let e = under_more all c.args.text.now c.args.levels (omega arith) in
     rw e first_of (search rules, grind (arith, common_steps))
 
+pub counted-returns-then-levels-eq0 : goal.counted-returns-then-levels-eq0
+counted-returns-then-levels-eq0 t c =
+    let e = under_none all c.args.text.now c.args.levels (omega arith) in
+    rw (e, c.shut.ensures) (λ _. shut_is c.args.tokens.now)
+
+pub counted-returns-then-not-is_next : goal.counted-returns-then-not-is_next
+unfolding spec.counted
+counted-returns-then-not-is_next t c =
+    let e = under_more all c.args.text.now c.args.levels (omega arith) in
+    rw e first_of (search rules, grind (arith, common_steps))
+
+pub counted-returns-in_err-expect : goal.counted-returns-in_err-expect
+unfolding spec.counted
+counted-returns-in_err-expect t c =
+    let e = under_more all c.args.text.now c.args.levels (omega arith) in
+    rw e first_of (search rules, grind (arith, common_steps))
+
+pub counted-returns-in_err-of : goal.counted-returns-in_err-of
+unfolding spec.counted
+counted-returns-in_err-of t c =
+    let e = under_more all c.args.text.now c.args.levels (omega arith) in
+    rw e first_of (search rules, grind (arith, common_steps))
+
+pub counted-returns-in_err-expect-2 : goal.counted-returns-in_err-expect-2
+unfolding spec.counted
+counted-returns-in_err-expect-2 t c =
+    let e = under_more all c.args.text.now c.args.levels (omega arith) in
+    rw e first_of (search rules, grind (arith, common_steps))
+
+pub counted-returns : goal.counted-returns
+unfolding spec.counted
+counted-returns t c =
+    let e = under_more all c.args.text.now c.args.levels (omega arith) in
+    rw e first_of (search rules, grind (arith, common_steps))
+
+pub choices-returns-then-levels-eq0 : goal.choices-returns-then-levels-eq0
+choices-returns-then-levels-eq0 t c =
+    let e = under_none all c.args.text.now c.args.levels (omega arith) in
+    rw (e, c.shut.ensures) (λ _. shut_is c.args.tokens.now)
+
+pub choices-returns-then-not-is_next : goal.choices-returns-then-not-is_next
+unfolding spec.choices
+choices-returns-then-not-is_next t c =
+    let e = under_more all c.args.text.now c.args.levels (omega arith) in
+    rw e first_of (search rules, grind (arith, common_steps))
+
+pub choices-returns-in_err-expect : goal.choices-returns-in_err-expect
+unfolding spec.choices
+choices-returns-in_err-expect t c =
+    let e = under_more all c.args.text.now c.args.levels (omega arith) in
+    rw e first_of (search rules, grind (arith, common_steps))
+
+pub choices-returns-in_err-found : goal.choices-returns-in_err-found
+unfolding spec.choices
+choices-returns-in_err-found t c =
+    let e = under_more all c.args.text.now c.args.levels (omega arith) in
+    rw e first_of (search rules, grind (arith, common_steps))
+
+pub choices-returns-in_err-expect-2 : goal.choices-returns-in_err-expect-2
+unfolding spec.choices
+choices-returns-in_err-expect-2 t c =
+    let e = under_more all c.args.text.now c.args.levels (omega arith) in
+    rw e first_of (search rules, grind (arith, common_steps))
+
+pub choices-returns : goal.choices-returns
+unfolding spec.choices
+choices-returns t c =
+    let e = under_more all c.args.text.now c.args.levels (omega arith) in
+    rw e first_of (search rules, grind (arith, common_steps))
+
 pub nots-returns-then-levels-eq0 : goal.nots-returns-then-levels-eq0
 unfolding spec.nots
 nots-returns-then-levels-eq0 t c =
@@ -299,7 +399,3 @@ unfolding spec.signed
 signed-returns t c =
     let e = under_more all c.args.text.now c.args.levels (omega arith) in
     rw e first_of (search rules, grind (arith, common_steps))
-
-pub atom-returns-then-is_next-5 : goal.atom-returns-then-is_next-5
-unfolding spec.atom
-atom-returns-then-is_next-5 t c = let e = star_is all c.args.text.now c.args.levels in first_of (search rules, grind (arith, common_steps))

@@ -36,6 +36,30 @@ decreases-enclosed l = l.levels * 32 + 6
 abbrev pub decreases-expr : goal.decreases-expr
 decreases-expr l = l.levels * 32 + 24
 
+abbrev pub decreases-count : goal.decreases-count
+decreases-count l = l.levels * 32 + 6
+
+abbrev pub decreases-counted : goal.decreases-counted
+decreases-counted l = l.levels * 32 + 5
+
+abbrev pub decreases-star_or_expr : goal.decreases-star_or_expr
+decreases-star_or_expr l = l.levels * 32 + 25
+
+abbrev pub decreases-coalesce : goal.decreases-coalesce
+decreases-coalesce l = l.levels * 32 + 6
+
+abbrev pub decreases-choices : goal.decreases-choices
+decreases-choices l = l.levels * 32 + 5
+
+abbrev pub decreases-alternatives : goal.decreases-alternatives
+decreases-alternatives l = l.levels * 32 + 27
+
+abbrev pub decreases-exprs : goal.decreases-exprs
+decreases-exprs l = l.levels * 32 + 26
+
+abbrev pub decreases-more_exprs : goal.decreases-more_exprs
+decreases-more_exprs l = l.levels * 32 + 25
+
 abbrev pub decreases-factor : goal.decreases-factor
 decreases-factor l = l.levels * 32 + 9
 
@@ -92,6 +116,9 @@ invariant-sum-loop-turn l = spec.sum all l.text (spec.under all l.text l.levels)
 
 abbrev pub invariant-more_sums-loop-turn : goal.invariant-more_sums-loop-turn
 invariant-more_sums-loop-turn l = spec.more (spec.sum all l.text (spec.under all l.text l.levels)) l.fn.found l.fn.tokens ≡ turns (is k.Comma) (spec.another (spec.sum all l.text (spec.under all l.text l.levels))) (l._turn-end - l._turn) l.sums l.tokens
+
+abbrev pub invariant-more_exprs-loop-turn : goal.invariant-more_exprs-loop-turn
+invariant-more_exprs-loop-turn l = spec.more (spec.expr all l.text (spec.under all l.text l.levels)) l.fn.found l.fn.tokens ≡ turns (is k.Comma) (spec.another (spec.expr all l.text (spec.under all l.text l.levels))) (l._turn-end - l._turn) l.exprs l.tokens
 
 abbrev pub invariant-conj-loop-turn : goal.invariant-conj-loop-turn
 invariant-conj-loop-turn l = spec.conj all l.text (spec.under all l.text l.levels) l.fn.tokens ≡ turns (is k.And) (spec.operation k.And op.And (spec.neg all l.text (spec.under all l.text l.levels))) (l._turn-end - l._turn) l.left l.tokens
