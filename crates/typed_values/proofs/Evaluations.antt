@@ -1,24 +1,97 @@
--- The value of each form of an expression, by the values of its operands; and whole expressions, worked out by these.
-use Rattle.std.proofs.Common.{◌≡◌, ℕ, ℤ, List, map, refl, sym, ap, ◌∙◌}
-use Rattle.sql_read.specs.declared.definition.ColumnKind.{ColumnKind}
+-- The scale and the value of each form of an expression, by those of its operands; and whole expressions, worked out by these.
+use Rattle.std.proofs.Common.{◌≡◌, ℕ, ℤ, List, [], ◌∷◌, map, refl, sym, ap, ◌∙◌}
 use Rattle.query_trees.specs.declared.expr.BinaryOp.{BinaryOp}
 use Rattle.query_trees.specs.declared.expr.Polarity.{Polarity}
 use Rattle.query_trees.specs.declared.expr.Sign.{Sign}
 use Rattle.typed_trees.specs.declared.typed.ColumnRef.{ColumnRef}
+use Rattle.typed_trees.specs.declared.typed.ColumnType.{ColumnType}
 use Rattle.typed_trees.specs.declared.typed.TypedExpr.{TypedExpr, roll-TypedExpr}
 use Rattle.typed_trees.specs.declared.typed.TypedExpr.TheOpen.{TypedExpr-F}
-use Rattle.typed_trees.specs.declared.typed.TypedExpr.TheFolds.{map-TypedExpr, fold-roll-TypedExpr}
+use Rattle.typed_trees.specs.declared.typed.TypedExpr.TheFolds.{map-TypedExpr, fold-roll-TypedExpr, para-roll-TypedExpr}
 use Rattle.typed_trees.specs.declared.typed.TypedExpr.TheVariants as e
-use Rattle.typed_trees.specs.declared.typed.TypedExpr.TheVariants.{rolls-Number, rolls-Text, rolls-Date, rolls-Column, rolls-Aggregate, rolls-Signed, rolls-Not, rolls-Binary, rolls-Divide, rolls-Between, rolls-In}
-use Rattle.typed_values.specs.Values.{Valued, On, form_value, value}
+use Rattle.typed_trees.specs.declared.typed.TypedExpr.TheVariants.{rolls-Number, rolls-Text, rolls-Date, rolls-Column, rolls-Aggregate, rolls-Signed, rolls-Not, rolls-Binary, rolls-Divide, rolls-Between, rolls-In, rolls-IsNull, rolls-Coalesce}
+use Rattle.typed_trees.specs.Scales.{form_scale, scale_of}
+use Rattle.typed_values.specs.Values.{Valued, On, Operand, operand, form_value, value}
 use Rattle.typed_values.specs.Examples.{WholeTable}
+use Rattle.typed_values.specs.ScaleExamples.{DecimalTable}
+use Rattle.typed_values.specs.AggregateExamples.{RowTable}
 
-pub value_roll : (on : On) (d : TypedExpr-F TypedExpr) → value on (roll-TypedExpr d) ≡ form_value on (map-TypedExpr TypedExpr Valued (value on) d)
+-- ---- scales
+
+pub scale_roll : (d : TypedExpr-F TypedExpr) → scale_of (roll-TypedExpr d) ≡ form_scale (map-TypedExpr TypedExpr ℕ scale_of d)
+unfolding scale_of
+scale_roll d = fold-roll-TypedExpr ℕ form_scale d
+
+pub scale_Number : (n scale : ℕ) → scale_of (e.Number n scale) ≡ scale
+scale_Number n scale = ap scale_of (sym (rolls-Number n scale)) ∙ scale_roll (TypedExpr-F.Number n scale)
+
+pub scale_Text : (t : List ℕ) → scale_of (e.Text t) ≡ 0
+scale_Text t = ap scale_of (sym (rolls-Text t)) ∙ scale_roll (TypedExpr-F.Text t)
+
+pub scale_Date : (day : ℤ) → scale_of (e.Date day) ≡ 0
+scale_Date day = ap scale_of (sym (rolls-Date day)) ∙ scale_roll (TypedExpr-F.Date day)
+
+pub scale_Column : (c : ColumnRef) (type : ColumnType) → scale_of (e.Column c type) ≡ type.scale
+scale_Column c type = ap scale_of (sym (rolls-Column c type)) ∙ scale_roll (TypedExpr-F.Column c type)
+
+pub scale_Aggregate : (n scale : ℕ) → scale_of (e.Aggregate n scale) ≡ scale
+scale_Aggregate n scale = ap scale_of (sym (rolls-Aggregate n scale)) ∙ scale_roll (TypedExpr-F.Aggregate n scale)
+
+pub scale_Signed : (s : Sign) (x : TypedExpr) → scale_of (e.Signed s x) ≡ scale_of x
+scale_Signed s x = ap scale_of (sym (rolls-Signed s x)) ∙ scale_roll (TypedExpr-F.Signed s x)
+
+pub scale_Not : (x : TypedExpr) → scale_of (e.Not x) ≡ 0
+scale_Not x = ap scale_of (sym (rolls-Not x)) ∙ scale_roll (TypedExpr-F.Not x)
+
+pub scale_Binary : (o : BinaryOp) (x y : TypedExpr) → scale_of (e.Binary o x y) ≡ form_scale (TypedExpr-F.Binary o (scale_of x) (scale_of y))
+scale_Binary o x y = ap scale_of (sym (rolls-Binary o x y)) ∙ scale_roll (TypedExpr-F.Binary o x y)
+
+pub scale_Divide : (x : TypedExpr) (s : Sign) (n : ℕ) → scale_of (e.Divide x s n) ≡ scale_of x
+scale_Divide x s n = ap scale_of (sym (rolls-Divide x s n)) ∙ scale_roll (TypedExpr-F.Divide x s n)
+
+pub scale_Between : (p : Polarity) (x y z : TypedExpr) → scale_of (e.Between p x y z) ≡ 0
+scale_Between p x y z = ap scale_of (sym (rolls-Between p x y z)) ∙ scale_roll (TypedExpr-F.Between p x y z)
+
+pub scale_In : (p : Polarity) (x : TypedExpr) (ys : List TypedExpr) → scale_of (e.In p x ys) ≡ 0
+scale_In p x ys = ap scale_of (sym (rolls-In p x ys)) ∙ scale_roll (TypedExpr-F.In p x ys)
+
+pub scale_IsNull : (p : Polarity) (x : TypedExpr) → scale_of (e.IsNull p x) ≡ 0
+scale_IsNull p x = ap scale_of (sym (rolls-IsNull p x)) ∙ scale_roll (TypedExpr-F.IsNull p x)
+
+pub scale_Coalesce : (x : TypedExpr) (ys : List TypedExpr) → scale_of (e.Coalesce x ys) ≡ form_scale (TypedExpr-F.Coalesce (scale_of x) (map scale_of ys))
+scale_Coalesce x ys = ap scale_of (sym (rolls-Coalesce x ys)) ∙ scale_roll (TypedExpr-F.Coalesce x ys)
+
+-- ---- values
+
+-- an expression as an operand
+abbrev pub evaluated : On → TypedExpr → Operand
+evaluated on x = record { scale = scale_of x; value = value on x }
+
+list_evaluated : (on : On) (ys : List TypedExpr) → map operand (map (λ x. (x, value on x)) ys) ≡ map (evaluated on) ys
+list_evaluated on [] = refl
+list_evaluated on (y ∷ ys) = ap (λ (more : List Operand). evaluated on y ∷ more) (list_evaluated on ys)
+
+value_step : (on : On) (d : TypedExpr-F TypedExpr) → value on (roll-TypedExpr d) ≡ form_value on (map-TypedExpr (TypedExpr × Valued) Operand operand (map-TypedExpr TypedExpr (TypedExpr × Valued) (λ x. (x, value on x)) d))
 unfolding value
-value_roll on d = fold-roll-TypedExpr Valued (form_value on) d
+value_step on d = para-roll-TypedExpr Valued (λ f. form_value on (map-TypedExpr (TypedExpr × Valued) Operand operand f)) d
 
-pub value_Number : (on : On) (n : ℕ) → value on (e.Number n) ≡ form_value on (TypedExpr-F.Number n)
-value_Number on n = ap (value on) (sym (rolls-Number n)) ∙ value_roll on (TypedExpr-F.Number n)
+pub value_roll : (on : On) (d : TypedExpr-F TypedExpr) → value on (roll-TypedExpr d) ≡ form_value on (map-TypedExpr TypedExpr Operand (evaluated on) d)
+value_roll on (TypedExpr-F.In p x ys) = value_step on (TypedExpr-F.In p x ys) ∙ ap (λ (l : List Operand). form_value on (TypedExpr-F.In p (evaluated on x) l)) (list_evaluated on ys)
+value_roll on (TypedExpr-F.Coalesce x ys) = value_step on (TypedExpr-F.Coalesce x ys) ∙ ap (λ (l : List Operand). form_value on (TypedExpr-F.Coalesce (evaluated on x) l)) (list_evaluated on ys)
+value_roll on (TypedExpr-F.Number n scale) = value_step on (TypedExpr-F.Number n scale)
+value_roll on (TypedExpr-F.Text t) = value_step on (TypedExpr-F.Text t)
+value_roll on (TypedExpr-F.Date day) = value_step on (TypedExpr-F.Date day)
+value_roll on (TypedExpr-F.Column c type) = value_step on (TypedExpr-F.Column c type)
+value_roll on (TypedExpr-F.Aggregate n scale) = value_step on (TypedExpr-F.Aggregate n scale)
+value_roll on (TypedExpr-F.Signed s x) = value_step on (TypedExpr-F.Signed s x)
+value_roll on (TypedExpr-F.Not x) = value_step on (TypedExpr-F.Not x)
+value_roll on (TypedExpr-F.Binary o x y) = value_step on (TypedExpr-F.Binary o x y)
+value_roll on (TypedExpr-F.Divide x s n) = value_step on (TypedExpr-F.Divide x s n)
+value_roll on (TypedExpr-F.Between p x a b) = value_step on (TypedExpr-F.Between p x a b)
+value_roll on (TypedExpr-F.IsNull p x) = value_step on (TypedExpr-F.IsNull p x)
+
+pub value_Number : (on : On) (n scale : ℕ) → value on (e.Number n scale) ≡ form_value on (TypedExpr-F.Number n scale)
+value_Number on n scale = ap (value on) (sym (rolls-Number n scale)) ∙ value_roll on (TypedExpr-F.Number n scale)
 
 pub value_Text : (on : On) (t : List ℕ) → value on (e.Text t) ≡ form_value on (TypedExpr-F.Text t)
 value_Text on t = ap (value on) (sym (rolls-Text t)) ∙ value_roll on (TypedExpr-F.Text t)
@@ -26,29 +99,58 @@ value_Text on t = ap (value on) (sym (rolls-Text t)) ∙ value_roll on (TypedExp
 pub value_Date : (on : On) (day : ℤ) → value on (e.Date day) ≡ form_value on (TypedExpr-F.Date day)
 value_Date on day = ap (value on) (sym (rolls-Date day)) ∙ value_roll on (TypedExpr-F.Date day)
 
-pub value_Column : (on : On) (c : ColumnRef) (kind : ColumnKind) → value on (e.Column c kind) ≡ form_value on (TypedExpr-F.Column c kind)
-value_Column on c kind = ap (value on) (sym (rolls-Column c kind)) ∙ value_roll on (TypedExpr-F.Column c kind)
+pub value_Column : (on : On) (c : ColumnRef) (type : ColumnType) → value on (e.Column c type) ≡ form_value on (TypedExpr-F.Column c type)
+value_Column on c type = ap (value on) (sym (rolls-Column c type)) ∙ value_roll on (TypedExpr-F.Column c type)
 
-pub value_Aggregate : (on : On) (n : ℕ) → value on (e.Aggregate n) ≡ form_value on (TypedExpr-F.Aggregate n)
-value_Aggregate on n = ap (value on) (sym (rolls-Aggregate n)) ∙ value_roll on (TypedExpr-F.Aggregate n)
+pub value_Aggregate : (on : On) (n scale : ℕ) → value on (e.Aggregate n scale) ≡ form_value on (TypedExpr-F.Aggregate n scale)
+value_Aggregate on n scale = ap (value on) (sym (rolls-Aggregate n scale)) ∙ value_roll on (TypedExpr-F.Aggregate n scale)
 
-pub value_Signed : (on : On) (s : Sign) (x : TypedExpr) → value on (e.Signed s x) ≡ form_value on (TypedExpr-F.Signed s (value on x))
+pub value_Signed : (on : On) (s : Sign) (x : TypedExpr) → value on (e.Signed s x) ≡ form_value on (TypedExpr-F.Signed s (evaluated on x))
 value_Signed on s x = ap (value on) (sym (rolls-Signed s x)) ∙ value_roll on (TypedExpr-F.Signed s x)
 
-pub value_Not : (on : On) (x : TypedExpr) → value on (e.Not x) ≡ form_value on (TypedExpr-F.Not (value on x))
+pub value_Not : (on : On) (x : TypedExpr) → value on (e.Not x) ≡ form_value on (TypedExpr-F.Not (evaluated on x))
 value_Not on x = ap (value on) (sym (rolls-Not x)) ∙ value_roll on (TypedExpr-F.Not x)
 
-pub value_Binary : (on : On) (o : BinaryOp) (x y : TypedExpr) → value on (e.Binary o x y) ≡ form_value on (TypedExpr-F.Binary o (value on x) (value on y))
+pub value_Binary : (on : On) (o : BinaryOp) (x y : TypedExpr) → value on (e.Binary o x y) ≡ form_value on (TypedExpr-F.Binary o (evaluated on x) (evaluated on y))
 value_Binary on o x y = ap (value on) (sym (rolls-Binary o x y)) ∙ value_roll on (TypedExpr-F.Binary o x y)
 
-pub value_Divide : (on : On) (x : TypedExpr) (s : Sign) (n : ℕ) → value on (e.Divide x s n) ≡ form_value on (TypedExpr-F.Divide (value on x) s n)
+pub value_Divide : (on : On) (x : TypedExpr) (s : Sign) (n : ℕ) → value on (e.Divide x s n) ≡ form_value on (TypedExpr-F.Divide (evaluated on x) s n)
 value_Divide on x s n = ap (value on) (sym (rolls-Divide x s n)) ∙ value_roll on (TypedExpr-F.Divide x s n)
 
-pub value_Between : (on : On) (p : Polarity) (x y z : TypedExpr) → value on (e.Between p x y z) ≡ form_value on (TypedExpr-F.Between p (value on x) (value on y) (value on z))
+pub value_Between : (on : On) (p : Polarity) (x y z : TypedExpr) → value on (e.Between p x y z) ≡ form_value on (TypedExpr-F.Between p (evaluated on x) (evaluated on y) (evaluated on z))
 value_Between on p x y z = ap (value on) (sym (rolls-Between p x y z)) ∙ value_roll on (TypedExpr-F.Between p x y z)
 
-pub value_In : (on : On) (p : Polarity) (x : TypedExpr) (ys : List TypedExpr) → value on (e.In p x ys) ≡ form_value on (TypedExpr-F.In p (value on x) (map (value on) ys))
+pub value_In : (on : On) (p : Polarity) (x : TypedExpr) (ys : List TypedExpr) → value on (e.In p x ys) ≡ form_value on (TypedExpr-F.In p (evaluated on x) (map (evaluated on) ys))
 value_In on p x ys = ap (value on) (sym (rolls-In p x ys)) ∙ value_roll on (TypedExpr-F.In p x ys)
 
+pub value_IsNull : (on : On) (p : Polarity) (x : TypedExpr) → value on (e.IsNull p x) ≡ form_value on (TypedExpr-F.IsNull p (evaluated on x))
+value_IsNull on p x = ap (value on) (sym (rolls-IsNull p x)) ∙ value_roll on (TypedExpr-F.IsNull p x)
+
+pub value_Coalesce : (on : On) (x : TypedExpr) (ys : List TypedExpr) → value on (e.Coalesce x ys) ≡ form_value on (TypedExpr-F.Coalesce (evaluated on x) (map (evaluated on) ys))
+value_Coalesce on x ys = ap (value on) (sym (rolls-Coalesce x ys)) ∙ value_roll on (TypedExpr-F.Coalesce x ys)
+
+-- ---- worked out
+
 pub whole : WholeTable
-whole = simp (value_Number, value_Column, value_Not, value_Binary, value_Divide, value_Between, value_In) refl
+whole =
+    simp (
+      value_Number,
+      value_Column,
+      value_Not,
+      value_Binary,
+      value_Divide,
+      value_Between,
+      value_In,
+      value_IsNull,
+      value_Coalesce,
+      scale_Number,
+      scale_Column,
+      scale_Divide,
+      scale_Coalesce,
+    ) refl
+
+pub decimals : DecimalTable
+decimals = simp (value_Number, value_Column, value_Signed, value_Binary, value_Coalesce, scale_Number, scale_Column, scale_Signed, scale_Binary, scale_Coalesce) refl
+
+pub of_rows : RowTable
+of_rows = simp (value_Number, value_Column, value_Binary, scale_Number, scale_Column) refl

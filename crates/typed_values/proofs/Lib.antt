@@ -1,5 +1,7 @@
-pub mod InBounds
 pub mod Evaluations
+mod Counted
 mod Kept
 pub mod Found
+mod FoundForms
+pub mod FoundParts
 pub mod Ranges

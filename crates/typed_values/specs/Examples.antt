@@ -9,10 +9,11 @@ use Rattle.query_trees.specs.declared.expr.Sign.{Sign}
 use Rattle.query_trees.specs.declared.expr.Sign.TheVariants as sign
 use Rattle.sql_read.specs.declared.definition.ColumnKind.TheVariants.{Integer}
 use Rattle.typed_trees.specs.declared.typed.ColumnRef.{ColumnRef}
+use Rattle.typed_trees.specs.declared.typed.ColumnType.{ColumnType}
 use Rattle.typed_trees.specs.declared.typed.TypedExpr.{TypedExpr}
 use Rattle.typed_trees.specs.declared.typed.TypedExpr.TheVariants as e
 use Rattle.typed_trees.specs.declared.typed.TypedExpr.TheOpen.{TypedExpr-F}
-use Rattle.typed_values.specs.Values.{Valued, On, form_value, value_on_row}
+use Rattle.typed_values.specs.Values.{Valued, On, Operand, form_value, value_on_row}
 
 abbrev pub yes : Valued
 yes = Ok (truth true)
@@ -36,8 +37,12 @@ bytes t = Ok (text t)
 abbrev pub nothing : On
 nothing = record { column = λ c. null; aggregate = λ n. unknown }
 
+-- a value as an operand of scale 0
+abbrev pub plain : Valued → Operand
+plain v = record { scale = 0; value = v }
+
 abbrev pub binary : BinaryOp → Valued → Valued → Valued
-binary o a b = form_value nothing (TypedExpr-F.Binary o a b)
+binary o a b = form_value nothing (TypedExpr-F.Binary o (plain a) (plain b))
 
 -- ---- truths: SQL-92's tables, with a row and a column for Over
 
@@ -64,7 +69,7 @@ OrTable = table_of op.Or ≡
     ∷ []
 
 abbrev pub NotTable : Type 0
-NotTable = map (λ a. form_value nothing (TypedExpr-F.Not a)) truths ≡ no ∷ yes ∷ unknown ∷ too_wide ∷ []
+NotTable = map (λ a. form_value nothing (TypedExpr-F.Not (plain a))) truths ≡ no ∷ yes ∷ unknown ∷ too_wide ∷ []
 
 -- ---- comparisons: two sides, and the answers of =, <>, <, <=, > and >=
 
@@ -137,7 +142,7 @@ betweens =
 
 abbrev pub BetweenTable : Type 0
 BetweenTable =
-    map (λ r. form_value nothing (TypedExpr-F.Between Plain r.0 r.1 r.2) ∷ form_value nothing (TypedExpr-F.Between Negated r.0 r.1 r.2) ∷ []) betweens
+    map (λ r. form_value nothing (TypedExpr-F.Between Plain (plain r.0) (plain r.1) (plain r.2)) ∷ form_value nothing (TypedExpr-F.Between Negated (plain r.0) (plain r.1) (plain r.2)) ∷ []) betweens
     ≡ map (λ r. r.3 ∷ r.4 ∷ []) betweens
 
 -- ---- IN: the tested value, the list; x IN (..), and x NOT IN (..)
@@ -155,7 +160,7 @@ ins =
 
 abbrev pub InTable : Type 0
 InTable =
-    map (λ r. form_value nothing (TypedExpr-F.In Plain r.0 r.1) ∷ form_value nothing (TypedExpr-F.In Negated r.0 r.1) ∷ []) ins
+    map (λ r. form_value nothing (TypedExpr-F.In Plain (plain r.0) (map plain r.1)) ∷ form_value nothing (TypedExpr-F.In Negated (plain r.0) (map plain r.1)) ∷ []) ins
     ≡ map (λ r. r.2 ∷ r.3 ∷ []) ins
 
 -- ---- arithmetic: two operands, their sum, difference and product
@@ -200,7 +205,7 @@ quotients =
     ∷ []
 
 abbrev pub QuotientTable : Type 0
-QuotientTable = map (λ r. form_value nothing (TypedExpr-F.Divide r.0 r.1 r.2)) quotients ≡ map (λ r. r.3) quotients
+QuotientTable = map (λ r. form_value nothing (TypedExpr-F.Divide (plain r.0) r.1 r.2)) quotients ≡ map (λ r. r.3) quotients
 
 -- a number, and its negative
 abbrev pub negatives : List (Valued × Valued)
@@ -214,26 +219,64 @@ negatives =
     ∷ []
 
 abbrev pub NegativeTable : Type 0
-NegativeTable = map (λ r. form_value nothing (TypedExpr-F.Signed sign.Minus r.0)) negatives ≡ map (λ r. r.1) negatives
+NegativeTable = map (λ r. form_value nothing (TypedExpr-F.Signed sign.Minus (plain r.0))) negatives ≡ map (λ r. r.1) negatives
+
+-- ---- IS NULL and IS NOT NULL
+
+abbrev pub nulls : List (Valued × Valued × Valued)
+nulls =
+    (unknown, yes, no)
+    ∷ (int (pos 0), no, yes)
+    ∷ (bytes [], no, yes)
+    ∷ (too_wide, too_wide, too_wide)
+    ∷ []
+
+abbrev pub NullTable : Type 0
+NullTable =
+    map (λ r. form_value nothing (TypedExpr-F.IsNull Plain (plain r.0)) ∷ form_value nothing (TypedExpr-F.IsNull Negated (plain r.0)) ∷ []) nulls
+    ≡ map (λ r. r.1 ∷ r.2 ∷ []) nulls
+
+-- ---- COALESCE: the first operand, the others
+
+abbrev pub choices : List (Valued × List Valued × Valued)
+choices =
+    (int (pos 7), int (pos 8) ∷ [], int (pos 7))
+    ∷ (unknown, int (pos 8) ∷ int (pos 9) ∷ [], int (pos 8))
+    ∷ (unknown, unknown ∷ bytes (97 ∷ []) ∷ [], bytes (97 ∷ []))
+    ∷ (bytes [], bytes (97 ∷ []) ∷ [], bytes [])
+    ∷ (unknown, unknown ∷ [], unknown)
+    ∷ (int (pos 7), too_wide ∷ [], too_wide)
+    ∷ []
+
+abbrev pub ChoiceTable : Type 0
+ChoiceTable = map (λ r. form_value nothing (TypedExpr-F.Coalesce (plain r.0) (map plain r.1))) choices ≡ map (λ r. r.2) choices
 
 -- ---- whole expressions, on a row whose first column is null and whose others are -7
 
+abbrev pub integer : ColumnType
+integer = record { kind = Integer; width = 0; scale = 0 }
+
 abbrev pub a : TypedExpr
-a = e.Column (record { source = 0; column = 0 }) Integer
+a = e.Column (record { source = 0; column = 0 }) integer
 
 abbrev pub b : TypedExpr
-b = e.Column (record { source = 0; column = 1 }) Integer
+b = e.Column (record { source = 0; column = 1 }) integer
+
+abbrev pub whole : ℕ → TypedExpr
+whole n = e.Number n 0
 
 abbrev pub row : ColumnRef → Value
 row c = if c.column == 0 then null else number (negsuc 6)
 
--- NOT a > 1; b / 2 + 1; b IN (a, 3, b); a BETWEEN 1 AND 3 OR b < 0
+-- NOT a > 1; b / 2 + 1; b IN (a, 3, b); a BETWEEN 1 AND 3 OR b < 0; a IS NULL; COALESCE(a, 0) + 1
 abbrev pub WholeTable : Type 0
 WholeTable =
     map (value_on_row row)
-    (e.Not (e.Binary op.Greater a (e.Number 1))
-    ∷ e.Binary op.Add (e.Divide b sign.Plus 2) (e.Number 1)
-    ∷ e.In Plain b (a ∷ e.Number 3 ∷ b ∷ [])
-    ∷ e.Binary op.Or (e.Between Plain a (e.Number 1) (e.Number 3)) (e.Binary op.Less b (e.Number 0))
+    (e.Not (e.Binary op.Greater a (whole 1))
+    ∷ e.Binary op.Add (e.Divide b sign.Plus 2) (whole 1)
+    ∷ e.In Plain b (a ∷ whole 3 ∷ b ∷ [])
+    ∷ e.Binary op.Or (e.Between Plain a (whole 1) (whole 3)) (e.Binary op.Less b (whole 0))
+    ∷ e.IsNull Plain a
+    ∷ e.Binary op.Add (e.Coalesce a (whole 0 ∷ [])) (whole 1)
     ∷ [])
-    ≡ unknown ∷ int (negsuc 1) ∷ yes ∷ yes ∷ []
+    ≡ unknown ∷ int (negsuc 1) ∷ yes ∷ yes ∷ yes ∷ int (pos 1) ∷ []

@@ -32,7 +32,7 @@ column_of c kind = None
 
 -- an expression that is an INTEGER column
 abbrev pub column : TypedExpr → Option ColumnRef
-column (e.Column c kind) = column_of c kind
+column (e.Column c type) = column_of c type.kind
 column x = None
 
 abbrev pub column_in : Option TypedExpr → Option ColumnRef
@@ -48,7 +48,7 @@ abbrev pub summed : Aggregate → Option ColumnRef
 summed a = if is_sum a.kind then column_in a.argument else None
 
 abbrev pub is_aggregate : TypedExpr → Bool
-is_aggregate (e.Aggregate n) = true
+is_aggregate (e.Aggregate n scale) = true
 is_aggregate x = false
 
 abbrev pub asked : PlanSource → List ℕ → Option ColumnRef → Option SumAsked

@@ -1,6 +1,6 @@
 -- The value of an expression on a row or on a group. After SQL-92 (ISO/IEC 9075:1992), 6.12 <numeric value expression>, 8.2 to 8.4 and 8.12 <search condition>,
--- but for arithmetic, which is exact, and Over where it leaves 128 bits.
-use Rattle.std.specs.Prelude.{ℕ, ℤ, pos, int_div, Bool, true, false, not, List, [], ◌∷◌, Option, Some, None, Result, Ok, Err}
+-- but for arithmetic, which is exact, and Over where it leaves 128 bits. A number is whole: it stands for itself divided by ten to the power of its expression's scale.
+use Rattle.std.specs.Prelude.{ℕ, zero, suc, ◌-◌, max, ℤ, pos, int_div, Bool, true, false, not, List, [], ◌∷◌, map, Option, Some, None, Result, Ok, Err}
 use Rattle.std.specs.declared.cmp.Ordering.{Ordering}
 use Rattle.std.specs.Ordering.{is_lt, is_eq, is_gt}
 use Rattle.sql_values.specs.Values.{Value, number, text, truth, null, by_value}
@@ -14,8 +14,9 @@ use Rattle.query_trees.specs.declared.expr.Sign.{Sign}
 use Rattle.typed_trees.specs.declared.typed.ColumnRef.{ColumnRef}
 use Rattle.typed_trees.specs.declared.typed.TypedExpr.{TypedExpr}
 use Rattle.typed_trees.specs.declared.typed.TypedExpr.TheOpen.{TypedExpr-F}
-use Rattle.typed_trees.specs.declared.typed.TypedExpr.TheFolds.{fold-TypedExpr}
-use Rattle.typed_values.specs.Intervals.{signed, combined}
+use Rattle.typed_trees.specs.declared.typed.TypedExpr.TheFolds.{map-TypedExpr, para-TypedExpr}
+use Rattle.typed_trees.specs.Scales.{greatest, scale_of}
+use Rattle.typed_values.specs.Intervals.{signed, combined, raised}
 
 -- a value, or Over: a number that leaves 128 bits
 abbrev pub Valued : Type 0
@@ -28,12 +29,22 @@ pub record On : Type 0 where
 
 -- ---- Over is strict
 
-abbrev pub with : Valued → (Value → Valued) → Valued
-with (Ok v) f = f v
+abbrev pub with : {X : Type 0} → Result X Over → (X → Valued) → Valued
+with (Ok x) f = f x
 with (Err e) f = Err e
 
 abbrev pub with_both : Valued → Valued → (Value → Value → Valued) → Valued
 with_both a b f = with a (λ v. with b (f v))
+
+-- all values, or Over where one of them is
+abbrev pub more_valued : Value → Result (List Value) Over → Result (List Value) Over
+more_valued v (Ok vs) = Ok (v ∷ vs)
+more_valued v (Err e) = Err e
+
+abbrev pub all_valued : List Valued → Result (List Value) Over
+all_valued [] = Ok []
+all_valued (Err e ∷ vs) = Err e
+all_valued (Ok v ∷ vs) = more_valued v (all_valued vs)
 
 -- ---- arithmetic: null of a null
 
@@ -92,54 +103,85 @@ abbrev pub by_polarity : Polarity → Value → Value
 by_polarity Plain a = a
 by_polarity Negated a = opposite a
 
--- x BETWEEN a AND b is x >= a AND x <= b
-abbrev pub between : Value → Value → Value → Value
-between x a b = both (comparison op.GreaterEqual x a) (comparison op.LessEqual x b)
+abbrev pub is_null : Value → Bool
+is_null null = true
+is_null v = false
 
--- x IN (..) is an OR of equalities
-abbrev pub among : Value → List Value → Value
-among x [] = truth false
-among x (y ∷ ys) = either (comparison op.Equal x y) (among x ys)
+-- the first that is not null, and null where all are
+abbrev pub first_there : List Value → Value
+first_there [] = null
+first_there (null ∷ vs) = first_there vs
+first_there (v ∷ vs) = v
+
+-- ---- scales: before a sum, a difference, a comparison or a choice each number is rescaled to the greatest scale of the operands
+
+-- an operand: its scale, and its value
+pub record Operand : Type 0 where
+  pub scale : ℕ
+  pub value : Valued
+
+-- a number with some more digits after the point; what keeps its scale stays as it is, and so does what is no number
+abbrev pub rescaled : ℕ → Value → Valued
+rescaled zero v = Ok v
+rescaled (suc n) (number z) = exact (raised (suc n) z)
+rescaled (suc n) v = Ok v
+
+abbrev pub at_scale : ℕ → Operand → Valued
+at_scale to x = with x.value (rescaled (to - x.scale))
+
+-- two operands at the greater of their scales
+abbrev pub at_one_scale : Operand → Operand → (Value → Value → Valued) → Valued
+at_one_scale x y f = with_both (at_scale (max x.scale y.scale) x) (at_scale (max x.scale y.scale) y) f
+
+-- several at the greatest of all their scales
+abbrev pub all_at_one_scale : Operand → List Operand → Result (List Value) Over
+all_at_one_scale x ys = all_valued (map (at_scale (greatest x.scale (map (λ y. y.scale) ys))) (x ∷ ys))
 
 -- ---- expressions
 
-abbrev pub binary_value : BinaryOp → Value → Value → Valued
-binary_value op.Or a b = Ok (either a b)
-binary_value op.And a b = Ok (both a b)
-binary_value op.Add a b = arithmetic (combined op.Add) a b
-binary_value op.Subtract a b = arithmetic (combined op.Subtract) a b
-binary_value op.Multiply a b = arithmetic (combined op.Multiply) a b
-binary_value o a b = Ok (comparison o a b)
+abbrev pub compared : BinaryOp → Operand → Operand → Valued
+compared o x y = at_one_scale x y (λ v w. Ok (comparison o v w))
 
-abbrev pub more_valued : Value → Result (List Value) Over → Result (List Value) Over
-more_valued v (Ok vs) = Ok (v ∷ vs)
-more_valued v (Err e) = Err e
+-- a product multiplies unscaled numbers
+abbrev pub binary_value : BinaryOp → Operand → Operand → Valued
+binary_value op.Or x y = with_both x.value y.value (λ v w. Ok (either v w))
+binary_value op.And x y = with_both x.value y.value (λ v w. Ok (both v w))
+binary_value op.Add x y = at_one_scale x y (arithmetic (combined op.Add))
+binary_value op.Subtract x y = at_one_scale x y (arithmetic (combined op.Subtract))
+binary_value op.Multiply x y = with_both x.value y.value (arithmetic (combined op.Multiply))
+binary_value o x y = compared o x y
 
-abbrev pub all_valued : List Valued → Result (List Value) Over
-all_valued [] = Ok []
-all_valued (Err e ∷ vs) = Err e
-all_valued (Ok v ∷ vs) = more_valued v (all_valued vs)
+-- x BETWEEN a AND b is x >= a AND x <= b
+abbrev pub between : Operand → Operand → Operand → Valued
+between x a b = with_both (compared op.GreaterEqual x a) (compared op.LessEqual x b) (λ v w. Ok (both v w))
 
-abbrev pub among_valued : Polarity → Value → Result (List Value) Over → Valued
-among_valued p x (Ok vs) = Ok (by_polarity p (among x vs))
-among_valued p x (Err e) = Err e
+-- x IN (..) is an OR of equalities
+abbrev pub among : Operand → List Operand → Valued
+among x [] = with x.value (λ v. Ok (truth false))
+among x (y ∷ ys) = with_both (compared op.Equal x y) (among x ys) (λ v w. Ok (either v w))
 
-abbrev pub form_value : On → TypedExpr-F Valued → Valued
-form_value on (TypedExpr-F.Number n) = exact (pos n)
+abbrev pub form_value : On → TypedExpr-F Operand → Valued
+form_value on (TypedExpr-F.Number n scale) = exact (pos n)
 form_value on (TypedExpr-F.Text t) = Ok (text t)
 form_value on (TypedExpr-F.Date day) = Ok (number day)
-form_value on (TypedExpr-F.Column c kind) = Ok (on.column c)
-form_value on (TypedExpr-F.Aggregate n) = on.aggregate n
-form_value on (TypedExpr-F.Signed s a) = with a (signed_value s)
-form_value on (TypedExpr-F.Not a) = with a (λ v. Ok (opposite v))
-form_value on (TypedExpr-F.Binary o a b) = with_both a b (binary_value o)
-form_value on (TypedExpr-F.Divide a s n) = with a (λ v. quotient_value v s n)
-form_value on (TypedExpr-F.Between p a b c) = with a (λ x. with_both b c (λ low high. Ok (by_polarity p (between x low high))))
-form_value on (TypedExpr-F.In p a bs) = with a (λ x. among_valued p x (all_valued bs))
+form_value on (TypedExpr-F.Column c type) = Ok (on.column c)
+form_value on (TypedExpr-F.Aggregate n scale) = on.aggregate n
+form_value on (TypedExpr-F.Signed s x) = with x.value (signed_value s)
+form_value on (TypedExpr-F.Not x) = with x.value (λ v. Ok (opposite v))
+form_value on (TypedExpr-F.Binary o x y) = binary_value o x y
+form_value on (TypedExpr-F.Divide x s n) = with x.value (λ v. quotient_value v s n)
+form_value on (TypedExpr-F.Between p x a b) = with (between x a b) (λ v. Ok (by_polarity p v))
+form_value on (TypedExpr-F.In p x ys) = with (among x ys) (λ v. Ok (by_polarity p v))
+form_value on (TypedExpr-F.IsNull p x) = with x.value (λ v. Ok (by_polarity p (truth (is_null v))))
+form_value on (TypedExpr-F.Coalesce x ys) = with (all_at_one_scale x ys) (λ vs. Ok (first_there vs))
+
+-- an expression with its value, as an operand
+abbrev pub operand : TypedExpr × Valued → Operand
+operand x = record { scale = scale_of x.0; value = x.1 }
 
 -- the value of an expression: every part is evaluated, whatever the others are
 unfoldable pub value : On → TypedExpr → Valued
-value on = fold-TypedExpr Valued (form_value on)
+value on = para-TypedExpr Valued (λ d. form_value on (map-TypedExpr (TypedExpr × Valued) Operand operand d))
 
 -- on a row, which has no aggregate
 abbrev pub value_on_row : (ColumnRef → Value) → TypedExpr → Valued

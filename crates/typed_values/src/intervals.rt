@@ -1,13 +1,15 @@
 //! Intervals of numbers of 128 bits.
 
-ghost use Rattle.std.specs.Prelude.{◌≡◌};
+ghost use Rattle.std.specs.Prelude.{◌≡◌, ◌^◌, pos};
 ghost use Rattle.control_vectors.specs.Slots.{in_128_bits};
+ghost use Rattle.typed_values.specs.Bounds.{hull};
 ghost use Rattle.typed_values.specs.Intervals as exactly;
 ghost use Rattle.typed_values.specs.Narrow as spec;
 
 use control_vectors::{add, mul, quot, sub};
 use query_trees::{BinaryOp, Sign};
 use sql_read::ColumnKind;
+use typed_trees::ColumnType;
 
 /// The least and the greatest that a value may be.
 #[derive(Clone, Copy)]
@@ -22,13 +24,52 @@ pub fn from_to(least: i128, greatest: i128) -> Interval
     Interval { least, greatest }
 }
 
-pub fn of_kind(kind: ColumnKind) -> Interval
-    ensures { result ≡ exactly.of_kind kind }
+/// 10 to this power, where it has 128 bits.
+#[tactic(auto, using(control_vectors::proofs::NumberLaws::in_128_bits_from_SomeIff))]
+fn power_of_ten(n: u32) -> Option<i128>
+    ensures { result ≡ in_128_bits (pos (10 ^ n)) }
 {
-    match kind {
-        ColumnKind::Integer => from_to(-9223372036854775808, 9223372036854775807),
-        ColumnKind::Date => from_to(-719162, 2932896),
-        ColumnKind::Text => from_to(0, 4294967295),
+    10i128.checked_pow(n)
+}
+
+/// From the one to the other, where both have 128 bits.
+fn between(least: Option<i128>, greatest: Option<i128>) -> Option<Interval>
+    ensures { result ≡ spec.between least greatest }
+{
+    match (least, greatest) {
+        (Some(least), Some(greatest)) => Some(from_to(least, greatest)),
+        _ => None,
+    }
+}
+
+/// The decimals of at most so many digits.
+fn digits(precision: u32) -> Option<Interval>
+    ensures { result ≡ spec.digits precision }
+{
+    match power_of_ten(precision) {
+        None => None,
+        Some(beyond) => between(sub(1, beyond), sub(beyond, 1)),
+    }
+}
+
+pub fn of_type(column: ColumnType) -> Option<Interval>
+    ensures { result ≡ spec.of_type column }
+{
+    match column.kind {
+        ColumnKind::Integer => Some(from_to(-9223372036854775808, 9223372036854775807)),
+        ColumnKind::Decimal => digits(column.width),
+        ColumnKind::Date => Some(from_to(-719162, 2932896)),
+        ColumnKind::Text => Some(from_to(0, 4294967295)),
+    }
+}
+
+/// An interval of numbers that are rescaled by so many digits.
+pub fn raised(by: u32, a: Interval) -> Option<Interval>
+    ensures { result ≡ spec.raised by a }
+{
+    match power_of_ten(by) {
+        None => None,
+        Some(power) => between(mul(a.least, power), mul(a.greatest, power)),
     }
 }
 
@@ -43,8 +84,8 @@ fn point(z: Option<i128>) -> Option<Interval>
 }
 
 /// The least interval around two.
-fn hull(a: Option<Interval>, b: Option<Interval>) -> Option<Interval>
-    ensures { result ≡ spec.hull a b }
+pub fn hull(a: Option<Interval>, b: Option<Interval>) -> Option<Interval>
+    ensures { result ≡ hull a b }
 {
     match (a, b) {
         (Some(a), Some(b)) => Some(from_to(a.least.min(b.least), a.greatest.max(b.greatest))),

@@ -31,11 +31,20 @@ fn is_plain(q: &TypedQuery) -> bool
     q.filter.len() == 0 && q.groups.len() == 0 && q.having.is_none() && q.order.len() == 0
 }
 
+fn integer_column(c: ColumnRef, kind: ColumnKind) -> Option<ColumnRef>
+    ensures { result ≡ spec.column_of c kind }
+{
+    match kind {
+        ColumnKind::Integer => Some(c),
+        _ => None,
+    }
+}
+
 fn column(e: &TypedExpr) -> Option<ColumnRef>
     ensures { result ≡ spec.column e.now }
 {
     match e {
-        TypedExpr::Column(c, ColumnKind::Integer) => Some(*c),
+        TypedExpr::Column(c, column) => integer_column(*c, column.kind),
         _ => None,
     }
 }
@@ -66,7 +75,7 @@ fn is_aggregate(e: &TypedExpr) -> bool
     ensures { result ≡ spec.is_aggregate e.now }
 {
     match e {
-        TypedExpr::Aggregate(_) => true,
+        TypedExpr::Aggregate(_, _) => true,
         _ => false,
     }
 }
