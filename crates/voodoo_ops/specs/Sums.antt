@@ -1,10 +1,10 @@
--- The program that adds up a column: Load, Range, Zip, FoldSum, Persist, in this order; and what it means.
+-- The program that adds up the numbers of a column: Load, Range, Zip, FoldSum, Persist, in this order; and what it means.
 use Rattle.std.specs.Prelude.{◌≡◌, ℤ, pos, ◌^◌, ◌≤◌, List, [], ◌∷◌, map, length, All, Some, None, Ok, codes, FitsSigned, slice_index_or}
 use Rattle.std.specs.Int.{w64}
-use Rattle.control_vectors.specs.Slots.{Slot}
+use Rattle.control_vectors.specs.Slots.{Slot, numbers}
 use Rattle.control_vectors.specs.Controls.{Control, control_of}
 use Rattle.control_vectors.specs.Folds.{total_of}
-use Rattle.struct_vectors.specs.Columns.{some_slots, narrow}
+use Rattle.struct_vectors.specs.Columns.{ColumnValue}
 use Rattle.struct_vectors.specs.Vectors.{VectorValue, vector_of}
 use Rattle.programs.specs.declared.op.Size.TheVariants.{Of}
 use Rattle.programs.specs.declared.op.Op.{Op}
@@ -33,17 +33,22 @@ sum_statements =
     ∷ statement (codes "out") (Persist (codes "s"))
     ∷ []
 
--- the store of one table `t` with one attribute `.a`
-abbrev pub column_store : List ℤ → List (Label × VectorValue)
-column_store numbers = (codes "t", vector_of (length numbers) ((codes ".a", record { slots = some_slots numbers; form = narrow }) ∷ [])) ∷ []
+-- the store of one table `t` with one attribute `.a`, which is the column
+abbrev pub column_store : ColumnValue → List (Label × VectorValue)
+column_store c = (codes "t", vector_of (length c.slots) ((codes ".a", c) ∷ [])) ∷ []
 
--- the exact total at slot 0, then empty slots
-abbrev pub total_slots : List ℤ → List Slot
+-- the exact total of some numbers; empty where there is nothing to add
+abbrev pub total_slot : List ℤ → Slot
+total_slot [] = None
+total_slot (x ∷ rest) = Some (total_of (x ∷ rest))
+
+-- the exact total of the numbers that are there at slot 0, then empty slots
+abbrev pub total_slots : List Slot → List Slot
 total_slots [] = []
-total_slots (x ∷ rest) = Some (total_of (x ∷ rest)) ∷ map (λ z. None) rest
+total_slots (s ∷ rest) = total_slot (numbers (s ∷ rest)) ∷ map (λ t. None) rest
 
-abbrev pub sum_results : List ℤ → Named
-sum_results numbers = (codes "out", column (codes ".sum") (length numbers) (total_slots numbers)) ∷ []
+abbrev pub sum_results : List Slot → Named
+sum_results slots = (codes "out", column (codes ".sum") (length slots) (total_slots slots)) ∷ []
 
 -- the slot at place 0 of the first result; empty where there is none
 abbrev pub first_of : List Attribute → Slot
@@ -54,18 +59,13 @@ abbrev pub first_slot_of : Named → Slot
 first_slot_of [] = None
 first_slot_of (e ∷ rest) = first_of e.1.attributes
 
--- the exact total; empty where there is nothing to add
-abbrev pub total_slot : List ℤ → Slot
-total_slot [] = None
-total_slot (x ∷ rest) = Some (total_of (x ∷ rest))
-
--- what the program of one column means, for at most 2^22 numbers of 64 bits: one result, whose slot 0 is the exact total
-pub record SumLaw (numbers : List ℤ) : Type 0 where
+-- what the program of one column means, for at most 2^22 slots with numbers of 64 bits: one result, whose slot 0 is the exact total
+pub record SumLaw (c : ColumnValue) : Type 0 where
   pub shape : List Outline
-  pub checked : check (outlines (tables (column_store numbers))) sum_statements ≡ Ok shape
+  pub checked : check (outlines (tables (column_store c))) sum_statements ≡ Ok shape
   pub small : limit_of shape ≡ None
-  pub meant : meaning (tables (column_store numbers)) sum_statements ≡ Ok (sum_results numbers)
-  pub first : first_slot_of (sum_results numbers) ≡ total_slot numbers
+  pub meant : meaning (tables (column_store c)) sum_statements ≡ Ok (sum_results c.slots)
+  pub first : first_slot_of (sum_results c.slots) ≡ total_slot (numbers c.slots)
 
 abbrev pub SumLaws : Type 0
-SumLaws = (numbers : List ℤ) → length numbers ≤ 2 ^ 22 → All (FitsSigned w64) numbers → SumLaw numbers
+SumLaws = (c : ColumnValue) → length c.slots ≤ 2 ^ 22 → All (FitsSigned w64) (numbers c.slots) → SumLaw c

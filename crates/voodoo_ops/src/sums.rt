@@ -1,8 +1,10 @@
-//! The program that adds up one column, the store of that column, and the slot with the total.
+//! The program that adds up the numbers of one column, the store of that column, and the slot with the
+//! total.
 
-ghost use Rattle.std.specs.Prelude.{◌≡◌, ◌≤◌, ◌^◌, ◌<◌, ◌++◌, [], ◌∷◌, IfOk, IfErr, IsOk, OnOk, All, FitsSigned, Ok, None, length, codes, slice_index_or};
+ghost use Rattle.std.specs.Prelude.{◌≡◌, ◌≤◌, ◌^◌, ◌++◌, [], ◌∷◌, IfOk, IfErr, IsOk, OnOk, All, FitsSigned, Ok, None, length, codes, slice_index_or};
 ghost use Rattle.std.specs.Int.{w64};
-ghost use Rattle.key_paths.specs.Paths.{IsPath};
+ghost use Rattle.control_vectors.specs.Slots.{numbers};
+ghost use Rattle.struct_vectors.specs.Columns.{IsNarrow};
 ghost use Rattle.programs.specs.Check.{check};
 ghost use Rattle.programs.specs.Outlines.{outlines};
 ghost use Rattle.programs.specs.Vectors.{seen_all, tables};
@@ -18,15 +20,16 @@ use programs::{FoldArgs, Op, Program, ProgramRefusal, Shape, Size, Statement};
 use std::alloc::{AllocError, Global};
 use struct_vectors::{Column, Store, StructVector};
 
-/// The exact total of a column, as the run of its sum program gives it: empty for no numbers.
-/// It fails only for want of memory.
-pub fn column_total(alloc: Global, numbers: &[i64]) -> Result<Slot, RunRefusal>
-    requires { length numbers.now ≤ 2 ^ 22 }
-    ensures total { IfOk result (λ s. s ≡ total_slot numbers.now) }
+/// The exact total of the numbers of a column that is kept in 64 bits, as the run of its sum program
+/// gives it: empty where every slot is. It fails only for want of memory.
+pub fn column_total(alloc: Global, column: &Column) -> Result<Slot, RunRefusal>
+    requires { IsNarrow column.now.form }
+    ensures total { IfOk result (λ s. s ≡ total_slot (numbers column.now.slots)) }
     ensures never_over { IfErr result (λ e. e ≡ RunRefusal.NoMemory) }
 {
     let program = sum_program(alloc)?;
-    let store = store_of_column(alloc, numbers)?;
+    let store = store_of_column(alloc, column)?;
+    see_numbers(column);
     sum_laws();
     let shape = shape_of(alloc, &program, &store)?;
     let results = run_plain(alloc, &program, &shape, &store)?;
@@ -127,28 +130,25 @@ fn persist(alloc: Global) -> Result<Op, NoMemory>
     })
 }
 
-/// The store of one table `t` with one attribute `.a`, which holds the numbers in order.
-pub fn store_of_column(alloc: Global, numbers: &[i64]) -> Result<Store, NoMemory>
-    requires { length numbers.now ≤ 2 ^ 22 }
-    ensures store { IfOk result (λ s. s ≡ column_store numbers.now) }
-    ensures fit { OnOk result (All (FitsSigned w64) numbers.now) }
+/// The store of one table `t` with one attribute `.a`, which is the column.
+pub fn store_of_column(alloc: Global, column: &Column) -> Result<Store, NoMemory>
+    ensures { IfOk result (λ s. s ≡ column_store column.now) }
 {
-    let copies = copied_numbers(alloc, numbers)?;
-    let v = StructVector::of_column(alloc, Path::of(alloc, ".a")?, Column::narrow(copies))?;
+    let v = StructVector::of_column(alloc, Path::of(alloc, ".a")?, column.copied(alloc)?)?;
     let mut vectors = Vec::with_capacity(alloc, 1)?;
     vectors.push((Name::of(alloc, "t")?, v))?;
     Ok(Store::new(vectors))
 }
 
-fn copied_numbers(alloc: Global, numbers: &[i64]) -> Result<Vec<i64>, NoMemory>
-    ensures items { IfOk result (λ v. v.items ≡ numbers.now) }
-    ensures fit { OnOk result (All (FitsSigned w64) numbers.now) }
+/// There are few slots, and each number of a column that is kept in 64 bits fits them.
+fn see_numbers(column: &Column)
+    requires { IsNarrow column.now.form }
+    ensures few { length column.now.slots ≤ 2 ^ 22 }
+    ensures fit { All (FitsSigned w64) (numbers column.now.slots) }
 {
-    let mut copies = Vec::with_capacity(alloc, numbers.len())?;
-    for n in numbers {
-        copies.push(*n)?;
+    for i in 0..column.len() {
+        let _slot = column.get(i);
     }
-    Ok(copies)
 }
 
 /// The slot at place 0 of the first result's first attribute: empty where there is none.

@@ -5,7 +5,7 @@ use Rattle.voodoo_ops.proofs.sums.column_total.Goals as goal
 
 pub returns-clause-total : goal.returns-clause-total
 returns-clause-total c =
-    let law = c.sum_laws.ensures c.args.numbers.now c.requires c.in_ok-store.ensures.fit in
-    let ran = rw (c.in_ok-store.ensures.store, c.in_ok-program.ensures) at c.in_ok-results.ensures in
-    let same : seen_all c.in_ok-results.results ≡ sum_results c.args.numbers.now = cc (ran, law.meant) in
+    let law = c.sum_laws.ensures c.args.column.now c.see_numbers.ensures.few c.see_numbers.ensures.fit in
+    let ran = rw (c.in_ok-store.ensures, c.in_ok-program.ensures) at c.in_ok-results.ensures in
+    let same : seen_all c.in_ok-results.results ≡ sum_results c.args.column.now.slots = cc (ran, law.meant) in
     c.first_slot.ensures ∙ ap first_slot_of same ∙ law.first
