@@ -5,3 +5,5 @@ pub mod ColumnForms
 pub mod NameForms
 pub mod Named
 mod Worked
+pub mod Inversions
+pub mod Scaled

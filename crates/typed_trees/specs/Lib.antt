@@ -6,3 +6,4 @@ pub mod Sides
 pub mod Typed
 pub mod Columns
 pub mod Examples
+pub mod Laws

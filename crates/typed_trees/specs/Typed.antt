@@ -1,7 +1,8 @@
 -- Typed expressions and queries: each operator has operands of types that it takes, text literals stand as sides alone, conditions are truths, and no item is one.
 -- After SQL-92 (ISO/IEC 9075:1992), 7.6 <where clause>, 7.8 <having clause> and 7.9 <query specification>.
-use Rattle.std.specs.Prelude.{◌≡◌, ℕ, true, false, All, Option, Some, IsSome}
+use Rattle.std.specs.Prelude.{◌≡◌, ℕ, Bool, true, not, All, Option, Some, IsSome}
 use Rattle.std.specs.Option.{ForSome}
+use Rattle.typed_trees.specs.declared.kinds.Kind.{Kind}
 use Rattle.typed_trees.specs.declared.kinds.Role.TheVariants.{Alone}
 use Rattle.typed_trees.specs.declared.typed.Aggregate.{Aggregate}
 use Rattle.typed_trees.specs.declared.typed.PlanSource.{PlanSource}
@@ -9,20 +10,23 @@ use Rattle.typed_trees.specs.declared.typed.TypedExpr.{TypedExpr}
 use Rattle.typed_trees.specs.declared.typed.TypedQuery.{TypedQuery}
 use Rattle.typed_trees.specs.Kinds.{is_truth}
 use Rattle.typed_trees.specs.Sides.{stands}
-use Rattle.typed_trees.specs.Types.{DataType, truth, type_of, no_aggregate, aggregate_type, types_of}
+use Rattle.typed_trees.specs.Types.{DataType, type_of, no_aggregate, aggregate_type, types_of}
 
--- an expression of this type, which stands alone, over aggregates of these types
-pub record IsOf (at : ℕ → Option DataType) (t : DataType) (e : TypedExpr) : Type 0 where
-  pub type : type_of at e ≡ Some t
+-- an expression of such a kind, which stands alone, over aggregates of these types
+pub record HasType (at : ℕ → Option DataType) (allowed : Kind → Bool) (e : TypedExpr) : Type 0 where
+  pub type : DataType
+  pub is : type_of at e ≡ Some type
+  pub kind : allowed type.kind ≡ true
   pub sides : stands e Alone ≡ true
 
-abbrev pub IsCondition : (ℕ → Option DataType) → TypedExpr → Type 0
-IsCondition at e = IsOf at truth e
+abbrev pub is_value : Kind → Bool
+is_value kind = not (is_truth kind)
 
-pub record IsItem (at : ℕ → Option DataType) (e : TypedExpr) : Type 0 where
-  pub type : DataType
-  pub is : IsOf at type e
-  pub no_truth : is_truth type.kind ≡ false
+abbrev pub IsCondition : (ℕ → Option DataType) → TypedExpr → Type 0
+IsCondition at e = HasType at is_truth e
+
+abbrev pub IsItem : (ℕ → Option DataType) → TypedExpr → Type 0
+IsItem at e = HasType at is_value e
 
 pub record IsAggregate (a : Aggregate) : Type 0 where
   pub type : IsSome (aggregate_type a)

@@ -1,6 +1,7 @@
-//! Worked types and names, each table stated once, as a contract.
+//! The law of scales, and worked types and names, each stated once, as a contract.
 
 ghost use Rattle.typed_trees.specs.Examples.{FoldedTable, NameTable, SideTable, TypeTable};
+ghost use Rattle.typed_trees.specs.Laws.{ScaleLaw};
 
 /// The types of expressions.
 pub fn types()
@@ -20,4 +21,9 @@ pub fn sides()
 /// What expressions name.
 pub fn named()
     ensures { NameTable }
+{}
+
+/// The scale of an expression's type is the expression's own.
+pub fn scale_law()
+    ensures { ScaleLaw }
 {}
