@@ -9,14 +9,14 @@ use Rattle.query_trees.specs.declared.expr.Sign.{Sign}
 use Rattle.query_trees.specs.declared.expr.Expr.{Expr, fold-Expr, fold_out-Expr}
 use Rattle.query_trees.specs.declared.expr.Form.{Form, Form-F, fold-Form, fold-roll-Form}
 use Rattle.query_trees.specs.declared.expr.Form.TheVariants as f
-use Rattle.query_trees.specs.declared.expr.Form.TheVariants.{rolls-Number, rolls-Text, rolls-Date, rolls-Column, rolls-CountAll, rolls-Aggregate, rolls-Enclosed, rolls-Signed, rolls-Not, rolls-Binary, rolls-Divide, rolls-Between, rolls-In}
+use Rattle.query_trees.specs.declared.expr.Form.TheVariants.{rolls-Number, rolls-Text, rolls-Date, rolls-Column, rolls-CountAll, rolls-Aggregate, rolls-Enclosed, rolls-Signed, rolls-Not, rolls-Binary, rolls-Divide, rolls-Between, rolls-In, rolls-IsNull, rolls-Coalesce}
 use Rattle.query_trees.specs.Nodes.{node}
 use Rattle.query_sizes.proofs.Totals.{total, total-map}
 
--- DATE and its text are two; COUNT has its parentheses and `*`; an aggregate, an enclosed expression and a list have their parentheses;
--- a quotient has its divisor, and BETWEEN its AND.
+-- DATE and its text are two; `COUNT(*)` has its parentheses and `*`; an aggregate, an enclosed expression, a list and what COALESCE chooses
+-- from have their parentheses; a quotient has its divisor, BETWEEN its AND, and IS its NULL.
 abbrev pub form_cost : Form-F ℕ ℕ → ℕ
-form_cost (Form-F.Number n) = 1
+form_cost (Form-F.Number n scale) = 1
 form_cost (Form-F.Text text) = 1
 form_cost (Form-F.Date day) = 2
 form_cost (Form-F.Column c) = 1
@@ -29,6 +29,8 @@ form_cost (Form-F.Binary o at x y) = 1 + x + y
 form_cost (Form-F.Divide at x d) = 2 + x
 form_cost (Form-F.Between p at x y z) = 2 + x + y + z
 form_cost (Form-F.In p at x ys) = 3 + x + total (λ n. n) ys
+form_cost (Form-F.IsNull p at x) = 2 + x
+form_cost (Form-F.Coalesce x ys) = 3 + x + total (λ n. n) ys
 
 unfoldable pub cost : Expr → ℕ
 cost = fold-Expr ℕ ℕ form_cost (λ x. x.form)
@@ -45,9 +47,9 @@ opens e = fold_out-Expr ℕ ℕ form_cost (λ x. x.form) e
 
 -- ---- by form
 
-pub cost-Number : (at n : ℕ) → cost (node at (f.Number n)) ≡ 1
+pub cost-Number : (at n scale : ℕ) → cost (node at (f.Number n scale)) ≡ 1
 unfolding of_form
-cost-Number at n = opens (node at (f.Number n)) ∙ ap of_form (sym (rolls-Number n)) ∙ fold-roll-Form ℕ ℕ form_cost (λ x. x.form) (Form-F.Number n)
+cost-Number at n scale = opens (node at (f.Number n scale)) ∙ ap of_form (sym (rolls-Number n scale)) ∙ fold-roll-Form ℕ ℕ form_cost (λ x. x.form) (Form-F.Number n scale)
 
 pub cost-Text : (at : ℕ) (t : List ℕ) → cost (node at (f.Text t)) ≡ 1
 unfolding of_form
@@ -96,3 +98,11 @@ cost-Between at p place x y z = opens (node at (f.Between p place x y z)) ∙ ap
 pub cost-In : (at : ℕ) (p : Polarity) (place : ℕ) (x : Expr) (ys : List Expr) → cost (node at (f.In p place x ys)) ≡ 3 + cost x + costs ys
 unfolding cost of_form
 cost-In at p place x ys = opens (node at (f.In p place x ys)) ∙ ap of_form (sym (rolls-In p place x ys)) ∙ fold-roll-Form ℕ ℕ form_cost (λ x. x.form) (Form-F.In p place x ys) ∙ ap (λ n. 3 + cost x + n) (total-map cost ys)
+
+pub cost-IsNull : (at : ℕ) (p : Polarity) (place : ℕ) (x : Expr) → cost (node at (f.IsNull p place x)) ≡ 2 + cost x
+unfolding cost of_form
+cost-IsNull at p place x = opens (node at (f.IsNull p place x)) ∙ ap of_form (sym (rolls-IsNull p place x)) ∙ fold-roll-Form ℕ ℕ form_cost (λ x. x.form) (Form-F.IsNull p place x)
+
+pub cost-Coalesce : (at : ℕ) (x : Expr) (ys : List Expr) → cost (node at (f.Coalesce x ys)) ≡ 3 + cost x + costs ys
+unfolding cost of_form
+cost-Coalesce at x ys = opens (node at (f.Coalesce x ys)) ∙ ap of_form (sym (rolls-Coalesce x ys)) ∙ fold-roll-Form ℕ ℕ form_cost (λ x. x.form) (Form-F.Coalesce x ys) ∙ ap (λ n. 3 + cost x + n) (total-map cost ys)

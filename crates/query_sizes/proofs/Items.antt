@@ -9,7 +9,7 @@ use Rattle.query_trees.specs.declared.clauses.SelectItem.{SelectItem}
 use Rattle.query_trees.specs.declared.clauses.SelectList.{SelectList}
 use Rattle.query_trees.specs.declared.clauses.SelectList.TheVariants as select
 use Rattle.query_types.specs.declared.refusal.TypeKind.TheVariants.{TypesDiffer, TooManyItems}
-use Rattle.query_types.specs.declared.kinds.Role.TheVariants.{Alone}
+use Rattle.typed_trees.specs.declared.kinds.Role.TheVariants.{Alone}
 use Rattle.query_types.specs.declared.stars.Starred.{Starred}
 use Rattle.query_types.specs.declared.items.Shown.{Shown}
 use Rattle.query_types.specs.declared.sources.Tables.{Tables}
@@ -61,8 +61,8 @@ unfolding star_item
 plain_item s at shown more x h is =
     let free = not_refused (is_full shown) TooManyItems at _ more is in
     let found = then_ok (standing s at (i.found_starred x)) _ more free.1 in
-    subst (λ z. IsPlain z) (ok_same (with_item shown (e.Column x.column x.kind) x.name) more found.2)
-    (plain_more shown (e.Column x.column x.kind) x.name (nodes-Column x.column x.kind) free.0 h)
+    subst (λ z. IsPlain z) (ok_same (with_item shown (e.Column x.column x.type_) x.name) more found.2)
+    (plain_more shown (e.Column x.column x.type_) x.name (nodes-Column x.column x.type_) free.0 h)
 
 plain_items : (s : Scope) (at : ℕ) (xs : List Starred) (shown more : Shown) → IsPlain shown → star_items s at shown xs ≡ Ok more → IsPlain more
 plain_items s at [] shown more h is = subst (λ z. IsPlain z) (ok_same shown more is) h

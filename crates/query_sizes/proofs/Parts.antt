@@ -40,16 +40,18 @@ binary o x y h g = by_and (is_and o) refl
 by_layer : (d : TypedExpr-F ((c : TypedExpr) × IsParted c)) → IsParted (roll-TypedExpr (map-TypedExpr ((c : TypedExpr) × IsParted c) TypedExpr (λ x. x.0) d))
 unfolding joined_parts
 by_layer (TypedExpr-F.Binary o x y) = binary o x.0 y.0 x.1 y.1
-by_layer (TypedExpr-F.Number n) = alone (TypedExpr-F.Number n) (para-roll-TypedExpr Parts form_parts (TypedExpr-F.Number n))
+by_layer (TypedExpr-F.Number n s) = alone (TypedExpr-F.Number n s) (para-roll-TypedExpr Parts form_parts (TypedExpr-F.Number n s))
 by_layer (TypedExpr-F.Text t) = alone (TypedExpr-F.Text t) (para-roll-TypedExpr Parts form_parts (TypedExpr-F.Text t))
 by_layer (TypedExpr-F.Date d) = alone (TypedExpr-F.Date d) (para-roll-TypedExpr Parts form_parts (TypedExpr-F.Date d))
 by_layer (TypedExpr-F.Column r k) = alone (TypedExpr-F.Column r k) (para-roll-TypedExpr Parts form_parts (TypedExpr-F.Column r k))
-by_layer (TypedExpr-F.Aggregate n) = alone (TypedExpr-F.Aggregate n) (para-roll-TypedExpr Parts form_parts (TypedExpr-F.Aggregate n))
+by_layer (TypedExpr-F.Aggregate n s) = alone (TypedExpr-F.Aggregate n s) (para-roll-TypedExpr Parts form_parts (TypedExpr-F.Aggregate n s))
 by_layer (TypedExpr-F.Signed s x) = alone (TypedExpr-F.Signed s x.0) (para-roll-TypedExpr Parts form_parts (TypedExpr-F.Signed s x.0))
 by_layer (TypedExpr-F.Not x) = alone (TypedExpr-F.Not x.0) (para-roll-TypedExpr Parts form_parts (TypedExpr-F.Not x.0))
 by_layer (TypedExpr-F.Divide x s n) = alone (TypedExpr-F.Divide x.0 s n) (para-roll-TypedExpr Parts form_parts (TypedExpr-F.Divide x.0 s n))
 by_layer (TypedExpr-F.Between p x y z) = alone (TypedExpr-F.Between p x.0 y.0 z.0) (para-roll-TypedExpr Parts form_parts (TypedExpr-F.Between p x.0 y.0 z.0))
 by_layer (TypedExpr-F.In p x ys) = alone (TypedExpr-F.In p x.0 (map (λ y. y.0) ys)) (para-roll-TypedExpr Parts form_parts (TypedExpr-F.In p x.0 (map (λ y. y.0) ys)))
+by_layer (TypedExpr-F.IsNull p x) = alone (TypedExpr-F.IsNull p x.0) (para-roll-TypedExpr Parts form_parts (TypedExpr-F.IsNull p x.0))
+by_layer (TypedExpr-F.Coalesce x ys) = alone (TypedExpr-F.Coalesce x.0 (map (λ y. y.0) ys)) (para-roll-TypedExpr Parts form_parts (TypedExpr-F.Coalesce x.0 (map (λ y. y.0) ys)))
 
 pub parts_most : (c : TypedExpr) → IsParted c
 parts_most = ind-TypedExpr IsParted (λ x y is. subst (λ z. IsParted (roll-TypedExpr z)) is (by_layer y))

@@ -30,7 +30,7 @@ light_from left at [] = tt
 light_from (suc left) at (b ∷ z) = light_from left (at + 1) z
 light_from zero at (b ∷ z) =
     let p = front (b ∷ z) in
-    light_append (option_to_list (token_of at p)) _ (light_token p.kind (record { kind = p.kind; at = at; len = p.len; value = p.value }) refl) (light_from _ (at + 1) z)
+    light_append (option_to_list (token_of at p)) _ (light_token p.kind (record { kind = p.kind; at = at; len = p.len; value = p.value; scale = p.scale }) refl) (light_from _ (at + 1) z)
 
 past_light : (kind : Kind) → sized (past_kind kind) ≡ 1
 past_light k.BadToken = refl

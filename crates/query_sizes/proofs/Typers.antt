@@ -6,7 +6,7 @@ use Rattle.query_types.specs.Expressions.{Typer, form_typer, expr_typer, typer}
 use Rattle.query_types.proofs.Typers.{form_typed}
 use Rattle.query_sizes.proofs.Totals.{total-map}
 use Rattle.query_sizes.proofs.Costs.{form_cost, cost, costs, of_form}
-use Rattle.query_sizes.proofs.Forms.{Within, exprs, within_number, within_text, within_date, within_column, within_count, within_aggregate, within_enclosed, within_signed, within_not, within_binary, within_divide, within_between, within_in}
+use Rattle.query_sizes.proofs.Forms.{Within, exprs, within_number, within_text, within_date, within_column, within_count, within_aggregate, within_enclosed, within_signed, within_not, within_binary, within_divide, within_between, within_in, within_null, within_coalesce}
 
 abbrev IsWithin : Expr → Type 0
 IsWithin x = Within (cost x) (typer x)
@@ -37,7 +37,7 @@ by_parts : (x : Form-F Form Expr) (c : ℕ) → form_cost (map-Form Form Expr �
 by_parts x c is h = by_costs (roll-Form x) c (form_typer (map-Form Form Expr (ℕ → Typer) Typer form_typed typer x)) (layer_cost x ∙ is) (layer_typed x) h
 
 by_layer : (y : Layer) → FormIsWithin (roll-Form (opened y))
-by_layer (Form-F.Number n) = by_parts (Form-F.Number n) 1 refl (within_number n)
+by_layer (Form-F.Number n scale) = by_parts (Form-F.Number n scale) 1 refl (within_number n scale)
 by_layer (Form-F.Text text) = by_parts (Form-F.Text text) 1 refl (within_text text)
 by_layer (Form-F.Date day) = by_parts (Form-F.Date day) 2 refl (within_date day)
 by_layer (Form-F.Column c) = by_parts (Form-F.Column c) 1 refl (within_column c)
@@ -52,6 +52,10 @@ by_layer (Form-F.Between p place x y z) = by_parts (Form-F.Between p place x.0 y
 by_layer (Form-F.In p place x ys) =
     by_parts (Form-F.In p place x.0 (exprs ys)) (3 + cost x.0 + costs (exprs ys)) (ap (λ n. 3 + cost x.0 + n) (total-map cost (exprs ys)))
     (λ at. within_in p place at (cost x.0) (typer x.0) ys x.1)
+by_layer (Form-F.IsNull p place x) = by_parts (Form-F.IsNull p place x.0) (2 + cost x.0) refl (λ at. within_null p place at (cost x.0) (typer x.0) x.1)
+by_layer (Form-F.Coalesce x ys) =
+    by_parts (Form-F.Coalesce x.0 (exprs ys)) (3 + cost x.0 + costs (exprs ys)) (ap (λ n. 3 + cost x.0 + n) (total-map cost (exprs ys)))
+    (λ at. within_coalesce at (cost x.0) (typer x.0) ys x.1)
 
 -- an expression is its form at a byte
 by_form : (y : Expr-F ((x : Form) × FormIsWithin x) ((x : Expr) × IsWithin x)) → IsWithin (roll-Expr (map-Expr ((x : Form) × FormIsWithin x) ((x : Expr) × IsWithin x) Form Expr (λ e. e.0) (λ e. e.0) y))

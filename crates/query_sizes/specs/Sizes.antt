@@ -1,5 +1,5 @@
 -- How large the expressions of a typed query are, and what no query exceeds.
--- The forms are those of SQL-92 (ISO/IEC 9075:1992), 6.4 to 6.12, 8.2 to 8.4 and 8.12.
+-- The forms are those of SQL-92 (ISO/IEC 9075:1992), 6.4 to 6.12, 8.2 to 8.4, 8.6 and 8.12.
 use Rattle.std.specs.Prelude.{◌≡◌, ℕ, ◌+◌, ◌≤◌, List, length, sum, sum_by, Option, Some, None, Ok}
 use Rattle.sql_read.specs.declared.definition.TableDef.{TableDef}
 use Rattle.sql_read.specs.Lexis.{Bytes}
@@ -13,19 +13,22 @@ use Rattle.typed_trees.specs.declared.typed.PlanSource.{PlanSource}
 use Rattle.typed_trees.specs.declared.typed.TypedQuery.{TypedQuery}
 use Rattle.query_types.specs.Typing.{typed_query}
 
--- An operator, a literal, a column and an aggregate are a node each. A divisor is a literal; BETWEEN, IN, NOT and a sign are operators.
+-- An operator, a literal, a column and an aggregate are a node each. A divisor is a literal; BETWEEN, IN, NOT, IS NULL, COALESCE and a sign
+-- are operators.
 abbrev pub form_nodes : TypedExpr-F ℕ → ℕ
-form_nodes (TypedExpr-F.Number n) = 1
+form_nodes (TypedExpr-F.Number n scale) = 1
 form_nodes (TypedExpr-F.Text text) = 1
 form_nodes (TypedExpr-F.Date day) = 1
-form_nodes (TypedExpr-F.Column c kind) = 1
-form_nodes (TypedExpr-F.Aggregate n) = 1
+form_nodes (TypedExpr-F.Column c type) = 1
+form_nodes (TypedExpr-F.Aggregate n scale) = 1
 form_nodes (TypedExpr-F.Signed s x) = 1 + x
 form_nodes (TypedExpr-F.Not x) = 1 + x
 form_nodes (TypedExpr-F.Binary o x y) = 1 + x + y
 form_nodes (TypedExpr-F.Divide x s n) = 2 + x
 form_nodes (TypedExpr-F.Between p x y z) = 1 + x + y + z
 form_nodes (TypedExpr-F.In p x ys) = 1 + x + sum ys
+form_nodes (TypedExpr-F.IsNull p x) = 1 + x
+form_nodes (TypedExpr-F.Coalesce x ys) = 1 + x + sum ys
 
 -- the nodes of an expression
 unfoldable pub nodes : TypedExpr → ℕ
