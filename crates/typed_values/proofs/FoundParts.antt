@@ -353,3 +353,21 @@ bounds_none x e = sym (ap interval_in e) ∙ found_bounds x
 
 pub bounds_some : (x : TypedExpr) (b : Bounded) → n.bounds x ≡ Some b → Some b.interval ≡ rule.bounds x
 bounds_some x b e = sym (ap interval_in e) ∙ found_bounds x
+
+abbrev scale_or : Bounds → ℕ → ℕ
+scale_or (Some b) s = b.scale
+scale_or None s = s
+
+scale_is : (b : Bounds) (v : Bool) (s : ℕ) (p : Option Interval) → Found b v s p → scale_or b s ≡ s
+scale_is b v s p (wide scale q) = refl
+scale_is b v s p (narrow scale i f g) = refl
+
+pub found_scale : (x : TypedExpr) (b : Bounded) → n.bounds x ≡ Some b → b.scale ≡ scale_of x
+found_scale x b e = sym (ap (λ c. scale_or c (scale_of x)) e) ∙ scale_is (n.bounds x) (all_narrow_in x) (scale_of x) (interval_of x) (bounds_found x)
+
+pub found_is_interval : (x : TypedExpr) (b : Bounded) → n.bounds x ≡ Some b → interval_of x ≡ Some b.interval
+found_is_interval x b e = interval_is (n.bounds x) (all_narrow_in x) (scale_of x) (interval_of x) (bounds_found x) b e
+  where
+    interval_is : (c : Bounds) (v : Bool) (s : ℕ) (p : Option Interval) → Found c v s p → (b : Bounded) → c ≡ Some b → p ≡ Some b.interval
+    interval_is c v s p (wide scale q) b e = cc
+    interval_is c v s p (narrow scale i f g) b e = ap interval_in e

@@ -1,6 +1,6 @@
 pub mod Evaluations
 mod Counted
-mod Kept
+pub mod Kept
 pub mod Found
 mod FoundForms
 pub mod FoundParts

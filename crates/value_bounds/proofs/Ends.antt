@@ -1,19 +1,21 @@
 -- Intervals by their ends: what lies between numbers that an interval covers is covered too, and arithmetic keeps what lies between.
-use Rattle.std.proofs.Common.{◌≡◌, ◌⊎◌, ℕ, zero, suc, ◌+◌, ◌/◌, ◌≤◌, ℤ, pos, negsuc, neg_ℤ, ◌+ℤ◌, ◌-ℤ◌, ◌*ℤ◌, ◌≤ℤ◌, int_div, Bool, true, false, if◌then◌else◌, Option, Some, None, FitsSigned, refl, sym, ap, subst, inl, inr, ⊎_elim, arith, mul-le-mul_right, div-mul-le_self}
+use Rattle.std.proofs.Common.{◌≡◌, ◌⊎◌, ℕ, zero, suc, ◌+◌, ◌/◌, ◌^◌, ◌≤◌, ℤ, pos, negsuc, neg_ℤ, ◌+ℤ◌, ◌-ℤ◌, ◌*ℤ◌, ◌≤ℤ◌, int_div, Bool, true, false, if◌then◌else◌, Option, Some, None, FitsSigned, refl, sym, ap, subst, inl, inr, ⊎_elim, arith, mul-le-mul_right, div-mul-le_self}
 use Rattle.std.specs.Int.{w128, int_min, int_max}
 use Rattle.std.proofs.lemmas.Int.{ints, clamps}
 use Rattle.std.proofs.lemmas.Nat.{le-div}
 use Rattle.std.proofs.Math.Nat.{div-zero}
 use Rattle.std.proofs.Math.IntN.{neg_ℤ-neg_ℤ, *ℤ_comm}
-use Rattle.control_vectors.specs.Slots.{fits_128}
-use Rattle.control_vectors.proofs.NumberLaws.{FitsSigned-from_fits_128}
+use Rattle.control_vectors.specs.Slots.{fits_128, in_128_bits}
+use Rattle.control_vectors.proofs.NumberLaws.{FitsSigned-from_fits_128, in_128_bits-some}
 use Rattle.query_trees.specs.declared.expr.BinaryOp.{BinaryOp}
 use Rattle.query_trees.specs.declared.expr.BinaryOp.TheVariants as op
 use Rattle.query_trees.specs.declared.expr.Sign.{Sign}
 use Rattle.query_trees.specs.declared.expr.Sign.TheVariants as sign
 use Rattle.typed_values.specs.declared.intervals.Interval.{Interval}
 use Rattle.typed_values.specs.Intervals.{interval, signed, combined, is_zero}
-use Rattle.typed_values.specs.Narrow.{point, hull, exact, literal, signed_interval, combined_interval, quotient_interval}
+use Rattle.typed_values.specs.Intervals as exactly
+use Rattle.typed_values.specs.Bounds.{hull}
+use Rattle.typed_values.specs.Narrow.{point, between as ends_of, exact, literal, power_of_ten, times, raised, signed_interval, combined_interval, quotient_interval}
 use borrow.Author.Differences.{up, down}
 
 -- between two numbers, whichever of them is the lesser
@@ -51,10 +53,10 @@ covers_exact z = by (fits_128 z) refl
     by true is = covers_point z (FitsSigned-from_fits_128 z is)
     by false is = covers_none z
 
-least_hull : (a b : Interval) → (int_min a.least b.least ≤ℤ a.least) × (int_min a.least b.least ≤ℤ b.least)
+pub least_hull : (a b : Interval) → (int_min a.least b.least ≤ℤ a.least) × (int_min a.least b.least ≤ℤ b.least)
 least_hull a b = (omega (arith, ints, clamps), omega (arith, ints, clamps))
 
-greatest_hull : (a b : Interval) → (a.greatest ≤ℤ int_max a.greatest b.greatest) × (b.greatest ≤ℤ int_max a.greatest b.greatest)
+pub greatest_hull : (a b : Interval) → (a.greatest ≤ℤ int_max a.greatest b.greatest) × (b.greatest ≤ℤ int_max a.greatest b.greatest)
 greatest_hull a b = (omega (arith, ints, clamps), omega (arith, ints, clamps))
 
 -- an interval that reaches as far covers as much
@@ -208,3 +210,30 @@ quotient_covers a d x h g = by (is_zero d)
     by : (t : Bool) → Covers (if t then None else hull (exact (int_div a.least d)) (exact (int_div a.greatest d))) (int_div x d)
     by true = covers_none (int_div x d)
     by false = ends (int_div a.least d) (int_div a.greatest d) (int_div x d) (quotient_lies a.least a.greatest x d h g)
+
+-- ---- numbers that are rescaled
+
+covers_ends : (x y z : ℤ) → x ≤ℤ z → z ≤ℤ y → Covers (ends_of (in_128_bits x) (in_128_bits y)) z
+covers_ends x y z h g = by (fits_128 x) (fits_128 y) refl refl
+  where
+    both : FitsSigned w128 x → FitsSigned w128 y → Covers (Some (interval x y)) z
+    both fx fy = record {
+      fits = λ i e. fits_between x y z fx fy h g;
+      above = λ i e. let s = some_same (interval x y) i e in omega (arith, ints);
+      below = λ i e. let s = some_same (interval x y) i e in omega (arith, ints);
+    }
+
+    by : (s t : Bool) → fits_128 x ≡ s → fits_128 y ≡ t → Covers (ends_of (if s then Some x else None) (if t then Some y else None)) z
+    by true true e f = both (FitsSigned-from_fits_128 x e) (FitsSigned-from_fits_128 y f)
+    by true false e f = covers_none z
+    by false t e f = covers_none z
+
+pub raised_covers : (by : ℕ) (a : Interval) (z : ℤ) → a.least ≤ℤ z → z ≤ℤ a.greatest → Covers (raised by a) (exactly.raised by z)
+raised_covers by a z h g = at (power_of_ten by) (λ p is. in_128_bits-some (pos (10 ^ by)) p is)
+  where
+    at : (p : Option ℤ) → ((q : ℤ) → p ≡ Some q → pos (10 ^ by) ≡ q) → Covers (times a p) (exactly.raised by z)
+    at None k = covers_none (exactly.raised by z)
+    at (Some q) k =
+        subst (λ (w : ℤ). Covers (times a (Some q)) (z *ℤ w)) (sym (k q refl))
+        (subst (λ (w : ℤ). Covers (times a (Some w)) (z *ℤ w)) (k q refl)
+        (covers_ends (a.least *ℤ pos (10 ^ by)) (a.greatest *ℤ pos (10 ^ by)) (z *ℤ pos (10 ^ by)) (times_keeps a.least z (10 ^ by) h) (times_keeps z a.greatest (10 ^ by) g)))

@@ -1,4 +1,4 @@
--- What the interval of an expression that cannot overflow says of its value, on rows whose numbers lie in the intervals of their columns' kinds: it has one, and a number lies within.
+-- What the interval of an expression that cannot overflow says of its value, on rows whose numbers lie in the intervals of their columns' types: it has one, and a number lies within.
 use Rattle.std.specs.Prelude.{◌≡◌, ◌≢◌, int_le, Bool, true, ◌&&◌, Some, Err, IsOkAnd}
 use Rattle.std.specs.List.{list_all}
 use Rattle.control_vectors.specs.Slots.{over}
@@ -7,7 +7,7 @@ use Rattle.typed_trees.specs.declared.typed.TypedExpr.{TypedExpr}
 use Rattle.typed_trees.specs.declared.typed.TypedExpr.TheOpen.{TypedExpr-F}
 use Rattle.typed_trees.specs.declared.typed.TypedExpr.TheFolds.{fold-TypedExpr}
 use Rattle.typed_values.specs.declared.intervals.Interval.{Interval}
-use Rattle.typed_values.specs.Intervals.{of_kind}
+use Rattle.typed_values.specs.Intervals.{of_type}
 use Rattle.typed_values.specs.Bounds.{interval_of, cannot_overflow}
 use Rattle.sql_values.specs.Values.{Value, number}
 use Rattle.typed_values.specs.Values.{value_on_row}
@@ -18,19 +18,21 @@ holds i (number z) = int_le i.least z && int_le z i.greatest
 holds i v = true
 
 abbrev pub form_fits : (ColumnRef → Value) → TypedExpr-F Bool → Bool
-form_fits columns (TypedExpr-F.Number n) = true
+form_fits columns (TypedExpr-F.Number n scale) = true
 form_fits columns (TypedExpr-F.Text t) = true
 form_fits columns (TypedExpr-F.Date day) = true
-form_fits columns (TypedExpr-F.Column c kind) = holds (of_kind kind) (columns c)
-form_fits columns (TypedExpr-F.Aggregate n) = true
+form_fits columns (TypedExpr-F.Column c type) = holds (of_type type) (columns c)
+form_fits columns (TypedExpr-F.Aggregate n scale) = true
 form_fits columns (TypedExpr-F.Signed s x) = x
 form_fits columns (TypedExpr-F.Not x) = x
 form_fits columns (TypedExpr-F.Binary o x y) = x && y
 form_fits columns (TypedExpr-F.Divide x s n) = x
 form_fits columns (TypedExpr-F.Between p x y z) = x && (y && z)
 form_fits columns (TypedExpr-F.In p x ys) = x && list_all (λ y. y) ys
+form_fits columns (TypedExpr-F.IsNull p x) = x
+form_fits columns (TypedExpr-F.Coalesce x ys) = x && list_all (λ y. y) ys
 
--- the row's numbers lie in the intervals of their columns' kinds, at each column of the expression
+-- the row's numbers lie in the intervals of their columns' types, at each column of the expression
 unfoldable pub fits : (ColumnRef → Value) → TypedExpr → Bool
 fits columns = fold-TypedExpr Bool (form_fits columns)
 
