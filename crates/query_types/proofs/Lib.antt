@@ -5,3 +5,4 @@ pub mod Narrow
 pub mod Parts
 pub mod Worked
 pub mod Greatest
+pub mod OutcomeLaws
