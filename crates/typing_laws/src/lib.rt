@@ -1,0 +1,4 @@
+//! What holds of every typed query.
+#![tactic(auto)]
+
+pub mod laws;
