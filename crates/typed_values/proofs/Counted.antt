@@ -4,7 +4,7 @@ use Rattle.typed_trees.specs.declared.typed.TypedExpr.{TypedExpr}
 use Rattle.typed_trees.specs.declared.typed.TypedExpr.TheVariants as e
 use Rattle.typed_trees.specs.Scales.{greatest, scale_of}
 use Rattle.typed_values.specs.Narrow.{counted}
-use Rattle.typed_values.proofs.Evaluations.{scale_Coalesce}
+use Rattle.typed_trees.proofs.ScaleForms.{scale_Coalesce}
 
 -- what is left of a list begins with its item at that place
 pub rest_from : {X : Type 0} (l : List X) (i : ℕ) (y : X) → i < length l → y ≡ get_or l i y → drop i l ≡ y ∷ drop (i + 1) l

@@ -22,7 +22,7 @@ use Rattle.typed_values.specs.Narrow as n
 use Rattle.typed_values.specs.Narrow.{Bounds, limited, at_scale, counted}
 use Rattle.typed_values.specs.Bounds as rule
 use Rattle.typed_values.specs.Bounds.{Ranged, ranged, range_at, hull, Part, Operand, with_itself, part_at, both_at_one_scale, form_interval, interval_of, form_below, parts_below, parts, lies_within, has_scale, is_narrow, cannot_overflow}
-use Rattle.typed_values.proofs.Evaluations.{scale_roll, scale_Number}
+use Rattle.typed_trees.proofs.ScaleForms.{scale_roll, scale_Number}
 use Rattle.typed_values.proofs.Found.{kept, Found, wide, narrow, Chosen, guarded, whole_narrow, found_from, part_narrow, up_to_36, rescaled_chosen}
 use Rattle.typed_values.proofs.FoundForms.{number_found, date_found, column_found, signed_found, tested_found, divided_found, pair_narrow, sum_found, product_found, logic_found, comparable_found, truth_found, compared_found, hull_chosen, all_kept, no_scale}
 

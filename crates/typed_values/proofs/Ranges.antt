@@ -15,7 +15,7 @@ use Rattle.typed_values.specs.declared.intervals.Interval.{Interval}
 use Rattle.typed_values.specs.Narrow.{Bounds, Operand, form_bounds, bounds, truth_if, comparable, at_scale, limited, chosen_bounds, counted}
 use Rattle.typed_values.specs.Bounds.{form_interval, interval_of, hull, cannot_overflow}
 use Rattle.typed_values.specs.BoundExamples.{bounded, scaled, IntervalTable, ScaledIntervalTable, NarrowTable, ScaledNarrowTable}
-use Rattle.typed_values.proofs.Evaluations.{scale_Number, scale_Column, scale_Aggregate, scale_Signed, scale_Binary}
+use Rattle.typed_trees.proofs.ScaleForms.{scale_Number, scale_Column, scale_Aggregate, scale_Signed, scale_Binary}
 use Rattle.typed_values.proofs.Counted.{greatest_counted}
 use Rattle.typed_values.proofs.FoundParts.{bounded_part, ranged_of, layer_interval, layer_bounds, scales_beside, found_where_narrow}
 

@@ -1,14 +1,19 @@
 -- The value of an expression lies in its interval, by induction over the expression.
-use Rattle.std.proofs.Common.{◌≡◌, ℕ, pos, Bool, true, ◌&&◌, List, [], ◌∷◌, map, Option, Some, None, Ok, is_some, refl, sym, ap, ◌∙◌, subst}
+use Rattle.std.proofs.Common.{◌≡◌, ℕ, pos, Bool, true, false, ◌&&◌, List, [], ◌∷◌, ◌++◌, map, Option, Some, None, Ok, is_some, refl, sym, ap, ◌∙◌, subst}
+use Rattle.std.specs.Prelude.{flat_map}
 use Rattle.std.specs.List.{fold, list_all}
+use Rattle.std.proofs.lemmas.List.Folds.{list_all-append}
 use Rattle.typed_trees.specs.declared.typed.ColumnRef.{ColumnRef}
+use Rattle.typed_trees.specs.declared.typed.ColumnType.{ColumnType}
 use Rattle.typed_trees.specs.declared.typed.TypedExpr.{TypedExpr, roll-TypedExpr}
 use Rattle.typed_trees.specs.declared.typed.TypedExpr.TheOpen.{TypedExpr-F}
-use Rattle.typed_trees.specs.declared.typed.TypedExpr.TheFolds.{map-TypedExpr, fold-roll-TypedExpr, ind-TypedExpr}
+use Rattle.typed_trees.specs.declared.typed.TypedExpr.TheFolds.{map-TypedExpr, ind-TypedExpr}
+use Rattle.typed_trees.specs.Columns.{Columns, form_columns, columns_in}
+use Rattle.typed_trees.proofs.ColumnForms.{columns_roll}
 use Rattle.typed_trees.specs.Scales.{greatest, scale_of}
 use Rattle.typed_values.specs.declared.interval_rule.Bounded.{Bounded}
 use Rattle.typed_values.specs.declared.intervals.Interval.{Interval}
-use Rattle.typed_values.specs.Intervals.{interval}
+use Rattle.typed_values.specs.Intervals.{interval, of_type}
 use Rattle.typed_values.specs.Bounds.{hull}
 use Rattle.typed_values.specs.Narrow as b
 use Rattle.typed_values.specs.Narrow.{Bounds, form_bounds, bounds, counted, truth_if}
@@ -16,7 +21,7 @@ use Rattle.typed_values.proofs.Evaluations.{evaluated, value_roll}
 use Rattle.typed_values.proofs.FoundParts.{bounded_part, layer_bounds, found_where_narrow, found_is_interval, found_scale}
 use Rattle.sql_values.specs.Values.{Value, truth, null}
 use Rattle.typed_values.specs.Values.{Valued, On, Operand, form_value, value_on_row, among, at_scale, all_valued, all_at_one_scale, opposite, by_polarity, is_null}
-use Rattle.value_bounds.specs.Laws.{form_fits, fits, ValueLaw, NeverOver}
+use Rattle.value_bounds.specs.Laws.{holds, fits, ValueLaw, NeverOver}
 use Rattle.value_bounds.proofs.Forms.{HasValue, HasFree, IsBounded, IsOperand, AllHeld, and_left, and_right, limited_scale, limited_some_is, number_bounded, text_bounded, date_bounded, column_bounded, aggregate_bounded, signed_bounded, tested_bounded, opposite_is_free, null_test_free, binary_bounded, divide_bounded, between_bounded, among_none, among_more, in_bounded, fold_first, hull_right, more_held, operand_held, choice_held, counted_scale}
 
 -- a row has no aggregate
@@ -28,9 +33,51 @@ IsHeld columns e = IsBounded (bounds e) (fits columns e) (value_on_row columns e
 
 -- ---- the interval, the columns and the value of a layer, put together
 
+-- a column's number lies in the interval of its type
+abbrev fits_at : (ColumnRef → Value) → ColumnRef × ColumnType → Bool
+fits_at columns c = holds (of_type c.1) (columns c.0)
+
+all_fit : (columns : ColumnRef → Value) (ys : List TypedExpr) → list_all (fits_at columns) (flat_map (λ (b : Columns). b) (map columns_in ys)) ≡ list_all (λ (f : Bool). f) (map (fits columns) ys)
+all_fit columns [] = refl
+all_fit columns (y ∷ ys) = list_all-append (fits_at columns) (columns_in y) (flat_map (λ (b : Columns). b) (map columns_in ys)) ∙ ap (λ b. fits columns y && b) (all_fit columns ys)
+
+one_more : (b : Bool) → (b && true) ≡ b
+one_more true = refl
+one_more false = refl
+
+-- whether a row fits a form, by whether it fits the operands
+abbrev form_fits : (ColumnRef → Value) → TypedExpr-F Bool → Bool
+form_fits columns (TypedExpr-F.Number n scale) = true
+form_fits columns (TypedExpr-F.Text t) = true
+form_fits columns (TypedExpr-F.Date day) = true
+form_fits columns (TypedExpr-F.Column c type) = holds (of_type type) (columns c)
+form_fits columns (TypedExpr-F.Aggregate n scale) = true
+form_fits columns (TypedExpr-F.Signed s x) = x
+form_fits columns (TypedExpr-F.Not x) = x
+form_fits columns (TypedExpr-F.Binary o x y) = x && y
+form_fits columns (TypedExpr-F.Divide x s n) = x
+form_fits columns (TypedExpr-F.Between p x y z) = x && (y && z)
+form_fits columns (TypedExpr-F.In p x ys) = x && list_all (λ y. y) ys
+form_fits columns (TypedExpr-F.IsNull p x) = x
+form_fits columns (TypedExpr-F.Coalesce x ys) = x && list_all (λ y. y) ys
+
+parts_fit : (columns : ColumnRef → Value) (d : TypedExpr-F TypedExpr) → list_all (fits_at columns) (form_columns (map-TypedExpr TypedExpr Columns columns_in d)) ≡ form_fits columns (map-TypedExpr TypedExpr Bool (fits columns) d)
+parts_fit columns (TypedExpr-F.Number n scale) = refl
+parts_fit columns (TypedExpr-F.Text t) = refl
+parts_fit columns (TypedExpr-F.Date day) = refl
+parts_fit columns (TypedExpr-F.Column c type) = one_more (holds (of_type type) (columns c))
+parts_fit columns (TypedExpr-F.Aggregate n scale) = refl
+parts_fit columns (TypedExpr-F.Signed s x) = refl
+parts_fit columns (TypedExpr-F.Not x) = refl
+parts_fit columns (TypedExpr-F.Binary o x y) = list_all-append (fits_at columns) (columns_in x) (columns_in y)
+parts_fit columns (TypedExpr-F.Divide x s n) = refl
+parts_fit columns (TypedExpr-F.Between p x y z) = list_all-append (fits_at columns) (columns_in x) (columns_in y ++ columns_in z) ∙ ap (λ b. fits columns x && b) (list_all-append (fits_at columns) (columns_in y) (columns_in z))
+parts_fit columns (TypedExpr-F.In p x ys) = list_all-append (fits_at columns) (columns_in x) (flat_map (λ (b : Columns). b) (map columns_in ys)) ∙ ap (λ b. fits columns x && b) (all_fit columns ys)
+parts_fit columns (TypedExpr-F.IsNull p x) = refl
+parts_fit columns (TypedExpr-F.Coalesce x ys) = list_all-append (fits_at columns) (columns_in x) (flat_map (λ (b : Columns). b) (map columns_in ys)) ∙ ap (λ b. fits columns x && b) (all_fit columns ys)
+
 layer_fits : (columns : ColumnRef → Value) (d : TypedExpr-F TypedExpr) → fits columns (roll-TypedExpr d) ≡ form_fits columns (map-TypedExpr TypedExpr Bool (fits columns) d)
-unfolding fits
-layer_fits columns d = fold-roll-TypedExpr Bool (form_fits columns) d
+layer_fits columns d = ap (list_all (fits_at columns)) (columns_roll d) ∙ parts_fit columns d
 
 same_bounded : (p q : Bounds) (f g : Bool) (r s : Valued) → p ≡ q → f ≡ g → r ≡ s → IsBounded q g s → IsBounded p f r
 same_bounded p q f g r s same_p same_f same_r h a e t = subst (λ (x : Valued). HasValue a.interval x) (sym same_r) (h a (sym same_p ∙ e) (sym same_f ∙ t))

@@ -4,8 +4,7 @@ use Rattle.std.specs.List.{list_all}
 use Rattle.control_vectors.specs.Slots.{over}
 use Rattle.typed_trees.specs.declared.typed.ColumnRef.{ColumnRef}
 use Rattle.typed_trees.specs.declared.typed.TypedExpr.{TypedExpr}
-use Rattle.typed_trees.specs.declared.typed.TypedExpr.TheOpen.{TypedExpr-F}
-use Rattle.typed_trees.specs.declared.typed.TypedExpr.TheFolds.{fold-TypedExpr}
+use Rattle.typed_trees.specs.Columns.{columns_in}
 use Rattle.typed_values.specs.declared.intervals.Interval.{Interval}
 use Rattle.typed_values.specs.Intervals.{of_type}
 use Rattle.typed_values.specs.Bounds.{interval_of, cannot_overflow}
@@ -17,24 +16,9 @@ abbrev pub holds : Interval → Value → Bool
 holds i (number z) = int_le i.least z && int_le z i.greatest
 holds i v = true
 
-abbrev pub form_fits : (ColumnRef → Value) → TypedExpr-F Bool → Bool
-form_fits columns (TypedExpr-F.Number n scale) = true
-form_fits columns (TypedExpr-F.Text t) = true
-form_fits columns (TypedExpr-F.Date day) = true
-form_fits columns (TypedExpr-F.Column c type) = holds (of_type type) (columns c)
-form_fits columns (TypedExpr-F.Aggregate n scale) = true
-form_fits columns (TypedExpr-F.Signed s x) = x
-form_fits columns (TypedExpr-F.Not x) = x
-form_fits columns (TypedExpr-F.Binary o x y) = x && y
-form_fits columns (TypedExpr-F.Divide x s n) = x
-form_fits columns (TypedExpr-F.Between p x y z) = x && (y && z)
-form_fits columns (TypedExpr-F.In p x ys) = x && list_all (λ y. y) ys
-form_fits columns (TypedExpr-F.IsNull p x) = x
-form_fits columns (TypedExpr-F.Coalesce x ys) = x && list_all (λ y. y) ys
-
 -- the row's numbers lie in the intervals of their columns' types, at each column of the expression
-unfoldable pub fits : (ColumnRef → Value) → TypedExpr → Bool
-fits columns = fold-TypedExpr Bool (form_fits columns)
+abbrev pub fits : (ColumnRef → Value) → TypedExpr → Bool
+fits columns e = list_all (λ c. holds (of_type c.1) (columns c.0)) (columns_in e)
 
 -- an expression that cannot overflow has a value on each row that fits it, which its interval holds
 abbrev pub ValueLaw : Type 0
