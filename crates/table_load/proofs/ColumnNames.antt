@@ -19,6 +19,7 @@ use Rattle.key_paths.specs.Paths.{is_dot, begins_segment, is_in_segment, is_segm
 use Rattle.key_paths.specs.Substructures.{begins_segment_or_ends, is_at_or_below, is_root}
 use Rattle.key_paths.proofs.Bools.{all_weaker}
 use Rattle.key_paths.proofs.Forms.{segment_inside}
+use Rattle.control_vectors.specs.Slots.{Slot}
 use Rattle.sql_read.specs.Forms.{is_name, IsFormed}
 use Rattle.sql_read.specs.declared.definition.ColumnDef.{ColumnDef}
 use Rattle.sql_read.specs.declared.definition.KeyDef.{KeyDef}
@@ -30,7 +31,7 @@ use Rattle.struct_vectors.specs.Refusals.{IsFirstClash}
 use Rattle.struct_vectors.specs.Vectors.{HaveLength, IsFirstOther, paths_of}
 use Rattle.table_load.specs.Databases.{path_of}
 use Rattle.table_load.specs.HeldColumns.{AreColumns}
-use Rattle.table_load.specs.Vectors.{AreColumnPaths, HasColumns, attribute_in, attributes_in, cell_code, is_column_path, recoded}
+use Rattle.table_load.specs.Vectors.{AreColumnPaths, HasColumns, attribute_in, attributes_in, cell_slot, is_column_path}
 use Rattle.table_load.proofs.Limits.{few_columns, findings_at}
 use Rattle.table_load.proofs.StoreFacts.{all_differ, none_passes, no_findings, unmapped}
 
@@ -169,16 +170,6 @@ root_apart (b ∷ c ∷ z) h = by_first (nat_eq b 46)
     by_first true = refl
     by_first false = refl
 
-is_path_of : (path : List ℕ) → is_column_path path ≡ true → IsPath path
-is_path_of [] h = absurd (false≢true h)
-is_path_of (b ∷ name) h =
-    let both = and_parts (nat_eq b 46) (is_name name) h in
-    let dot : b ≡ 46 = grind (arith, nat_tests, both.0) in
-    subst (λ (k : ℕ). IsPath (k ∷ name)) (sym dot) (path_of_name name both.1)
-
-pub are_paths : (paths : List (List ℕ)) → AreColumnPaths paths → All IsPath paths
-are_paths paths h k d l = is_path_of (get_or paths k d) (h.each k d l)
-
 pub below_root : (given : List (List ℕ × ColumnValue)) → AreColumnPaths (paths_of given) → All (λ a. is_root a.0 ≡ false) given
 below_root given h i d l =
     root_apart (get_or given i d).0 (subst (λ p. is_column_path p ≡ true) (get_or-map (λ (a : List ℕ × ColumnValue). a.0) given i d [] l) (h.each i [] (omega (arith, l, length-map given (λ a. a.0)))))
@@ -196,16 +187,16 @@ all_first P x xs p ps (suc i) d l = ps i d (omega arith)
 no_attributes : {X : Type 0} (P : X → Type 0) → All P []
 no_attributes P i d l = absurd (omega arith)
 
-pub attribute_lengths : (codes : List ℤ) (m n : ℕ) (ks : List Bool) (cs : List (List ℤ)) (defs : List ColumnDef) → AreColumns m n ks cs → HaveLength n (attributes_in codes ks cs defs)
+pub attribute_lengths : (codes : List ℤ) (m n : ℕ) (ks : List Bool) (cs : List (List Slot)) (defs : List ColumnDef) → AreColumns m n ks cs → HaveLength n (attributes_in codes ks cs defs)
 attribute_lengths codes m n ks cs [] w = no_attributes _
 attribute_lengths codes m n [] cs (d ∷ ds) w = no_attributes _
 attribute_lengths codes m n (k ∷ ks) [] (d ∷ ds) w = absurd w
 attribute_lengths codes m n (k ∷ ks) (c ∷ cs) (d ∷ ds) w =
     all_first (λ a. length a.1.slots ≡ n) (attribute_in codes d k c) (attributes_in codes ks cs ds)
-    (length-map (recoded codes k c) (λ x. Some x) ∙ length-map c (cell_code codes k) ∙ w.0)
+    (length-map c (cell_slot codes k) ∙ w.0)
     (attribute_lengths codes m n ks cs ds w.2)
 
-pub attribute_paths : (codes : List ℤ) (m n : ℕ) (ks : List Bool) (cs : List (List ℤ)) (defs : List ColumnDef) → AreColumns m n ks cs → length ks ≡ length defs → paths_of (attributes_in codes ks cs defs) ≡ map path_of defs
+pub attribute_paths : (codes : List ℤ) (m n : ℕ) (ks : List Bool) (cs : List (List Slot)) (defs : List ColumnDef) → AreColumns m n ks cs → length ks ≡ length defs → paths_of (attributes_in codes ks cs defs) ≡ map path_of defs
 attribute_paths codes m n ks cs [] w l = refl
 attribute_paths codes m n [] cs (d ∷ ds) w l = absurd (omega (arith, l))
 attribute_paths codes m n (k ∷ ks) [] (d ∷ ds) w l = absurd w
@@ -229,7 +220,7 @@ pub record MakeVector (n : ℕ) (attributes : List (List ℕ × ColumnValue)) : 
   pub lengths : HaveLength n attributes
   pub paths : AreColumnPaths (paths_of attributes)
 
-pub make_vector : (codes : List ℤ) (m n : ℕ) (ks : List Bool) (cs : List (List ℤ)) (def : TableDef) → AreColumns m n ks cs → length ks ≡ length def.columns → HasColumns def → MakeVector n (attributes_in codes ks cs def.columns)
+pub make_vector : (codes : List ℤ) (m n : ℕ) (ks : List Bool) (cs : List (List Slot)) (def : TableDef) → AreColumns m n ks cs → length ks ≡ length def.columns → HasColumns def → MakeVector n (attributes_in codes ks cs def.columns)
 make_vector codes m n ks cs def w l h =
     let attributes = attributes_in codes ks cs def.columns in
     let paths = attribute_paths codes m n ks cs def.columns w l in

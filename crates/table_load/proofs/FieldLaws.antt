@@ -1,12 +1,14 @@
 -- One field of a record more.
-use Rattle.std.proofs.Common.{◌≡◌, ◌∙◌, ℕ, zero, suc, ◌+◌, ◌<◌, ◌≤◌, ℤ, Bool, true, false, cond, List, [], ◌∷◌, ◌++◌, length, drop, get_or, Some, None, Result, Ok, Err, refl, sym, ap, subst, arith, add-one, append_assoc}
+use Rattle.std.proofs.Common.{◌≡◌, ◌∙◌, ℕ, zero, suc, ◌+◌, ◌<◌, ◌≤◌, Bool, true, false, cond, List, [], ◌∷◌, ◌++◌, length, drop, get_or, Some, None, Result, Ok, Err, refl, sym, ap, subst, arith, add-one, append_assoc}
 use Rattle.std.specs.List.{position_from}
 use Rattle.std.specs.Str.{is_utf8}
 use Rattle.std.proofs.Math.Seq.{drop-cons}
 use Rattle.std.proofs.lemmas.List.{drop_all, drop_more, map-append}
 use Rattle.csv.specs.Records.{field_at}
 use Rattle.sql_read.specs.declared.definition.ColumnDef.{ColumnDef}
+use Rattle.sql_read.specs.declared.definition.TableDef.{TableDef}
 use Rattle.sql_values.specs.Values.{Value, text}
+use Rattle.control_vectors.specs.Slots.{Slot}
 use Rattle.table_load.specs.Databases.{row_texts}
 use Rattle.table_load.specs.HeldColumns.{AreCells, IsCell, noted, value_of, values_of}
 use Rattle.table_load.specs.Tables.{first_other, is_same_name}
@@ -40,23 +42,23 @@ other_none columns fields i h = rw (drop_all i columns h) refl
 
 -- ---- values
 
-pub value_step : (columns : List ColumnDef) (fields : List (List ℕ)) (i : ℕ) (d : ColumnDef) (f : List ℕ) → i < length columns → field_at fields i ≡ Some f
-    → field_values (drop i columns) (drop i fields) ≡ field_value (get_or columns i d) f ∷ field_values (drop (i + 1) columns) (drop (i + 1) fields)
-value_step columns fields i d f h e = rw (drop-cons columns i d h, field_drop fields i f e, add-one i) refl
+pub value_step : (t : TableDef) (columns : List ColumnDef) (fields : List (List ℕ)) (i : ℕ) (d : ColumnDef) (f : List ℕ) → i < length columns → field_at fields i ≡ Some f
+    → field_values t (drop i columns) (drop i fields) ≡ field_value t (get_or columns i d) f ∷ field_values t (drop (i + 1) columns) (drop (i + 1) fields)
+value_step t columns fields i d f h e = rw (drop-cons columns i d h, field_drop fields i f e, add-one i) refl
 
-pub values_end : (columns : List ColumnDef) (fields : List (List ℕ)) (i : ℕ) → length columns ≤ i → field_values (drop i columns) (drop i fields) ≡ []
-values_end columns fields i h = rw (drop_all i columns h) refl
+pub values_end : (t : TableDef) (columns : List ColumnDef) (fields : List (List ℕ)) (i : ℕ) → length columns ≤ i → field_values t (drop i columns) (drop i fields) ≡ []
+values_end t columns fields i h = rw (drop_all i columns h) refl
 
 pub oks-push : (vs : List Value) (v : Value) (rest : List (Result Value DataKind)) → oks vs ++ Ok v ∷ rest ≡ oks (vs ++ v ∷ []) ++ rest
 oks-push vs v rest = sym (ap (λ l. l ++ rest) (map-append (λ x. Ok x) vs (v ∷ [])) ∙ append_assoc (oks vs) (Ok v ∷ []) rest)
 
 -- what a cell more leaves
-pub record CellMore (first old new : List (List ℕ)) (ks : List Bool) (zs : List ℤ) (k : Bool) (z : ℤ) : Type 0 where
+pub record CellMore (first old new : List (List ℕ)) (ks : List Bool) (zs : List Slot) (k : Bool) (z : Slot) : Type 0 where
   pub values : values_of new ks (zs ++ z ∷ []) ≡ values_of old ks zs ++ value_of new k z ∷ []
   pub cells : AreCells (length new) ks (zs ++ z ∷ [])
   pub noted_are : new ≡ noted first (row_texts (values_of new ks (zs ++ z ∷ [])))
 
-pub cell_more : (first old new : List (List ℕ)) (ks : List Bool) (zs : List ℤ) (k : Bool) (z : ℤ) → length zs < length ks → get_or ks (length zs) false ≡ k → AreCells (length old) ks zs
+pub cell_more : (first old new : List (List ℕ)) (ks : List Bool) (zs : List Slot) (k : Bool) (z : Slot) → length zs < length ks → get_or ks (length zs) false ≡ k → AreCells (length old) ks zs
     → new ≡ noted old (row_texts (value_of new k z ∷ [])) → IsCell (length new) k z → old ≡ noted first (row_texts (values_of old ks zs)) → CellMore first old new ks zs k z
 cell_more first old new ks zs k z h e w n c o =
     let grows : Grows old new = subst (Grows old) (sym n) (noted_grows old (row_texts (value_of new k z ∷ []))) in

@@ -5,6 +5,7 @@ pub mod KeyLaws
 pub mod FieldLaws
 pub mod TextLaws
 pub mod ColumnLaws
+mod MarkLaws
 pub mod LoadLaws
 pub mod RuleLaws
 pub mod DictionaryFacts

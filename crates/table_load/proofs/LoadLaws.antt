@@ -4,6 +4,7 @@ use Rattle.std.specs.Prelude.{IfSome}
 use Rattle.std.specs.List.{IsDistinct}
 use Rattle.std.specs.Str.{bytes_eq}
 use Rattle.sql_read.specs.declared.definition.TableDef.{TableDef}
+use Rattle.control_vectors.specs.Slots.{Slot}
 use Rattle.sql_values.specs.Values.{Value}
 use Rattle.table_load.specs.declared.refusal.DataKind.{DataKind}
 use Rattle.table_load.specs.declared.refusal.DataRefusal.{DataRefusal}
@@ -32,7 +33,7 @@ unfolding IsDistinct
 distinct_none = tt
 
 -- keys agree once a record's texts are noted
-pub agree_more : (key : Option ℕ) (old new : List (List ℕ)) (ks : List Bool) (cs : List (List ℤ)) (n : ℕ) (earlier : ℤ → Option ℕ) → IfSome key (λ k. k < length ks) → AreColumns (length old) n ks cs → KeysPlaced key cs earlier
+pub agree_more : (key : Option ℕ) (old new : List (List ℕ)) (ks : List Bool) (cs : List (List Slot)) (n : ℕ) (earlier : ℤ → Option ℕ) → IfSome key (λ k. k < length ks) → AreColumns (length old) n ks cs → KeysPlaced key cs earlier
     → old ≡ noted [] (rows_texts (rows_held old ks cs n)) → (more : List (List ℕ)) × (new ≡ noted old more) → Agrees key new ks (rows_held old ks cs n) earlier
 agree_more key old new ks cs n earlier h w p o (more, e) =
     let grows : Grows old new = subst (Grows old) (sym e) (noted_grows old more) in
@@ -41,7 +42,7 @@ agree_more key old new ks cs n earlier h w p o (more, e) =
     agrees key old new ks cs n earlier h grows distinct w p
 
 -- a record that is refused
-pub load_refused : (t : TableDef) (key : Option ℕ) (old new : List (List ℕ)) (ks : List Bool) (cs : List (List ℤ)) (zs : List ℤ) (n : ℕ) (earlier : ℤ → Option ℕ) (seen : List (List Value)) (left rest : List (List (List ℕ))) (r : List (List ℕ))
+pub load_refused : (t : TableDef) (key : Option ℕ) (old new : List (List ℕ)) (ks : List Bool) (cs : List (List Slot)) (zs : List Slot) (n : ℕ) (earlier : ℤ → Option ℕ) (seen : List (List Value)) (left rest : List (List (List ℕ))) (r : List (List ℕ))
     (start : Result (List (List Value)) DataRefusal) (e : DataRefusal) → start ≡ rows_after t seen left → left ≡ r ∷ rest → length seen ≡ n → HasNoted old new (Err e)
     → ((more : List (List ℕ)) × (new ≡ noted old more) → Agrees key new ks seen earlier) → (length seen ≡ n → Agrees key new ks seen earlier → ReadsRecord new ks zs n (Err e) (record_row t seen r)) → RefusedBy (as_table t start) e
 load_refused t key old new ks cs zs n earlier seen left rest r start refusal.NoMemory s l c g a reads = tt
@@ -50,13 +51,13 @@ load_refused t key old new ks cs zs n earlier seen left rest r start (refusal.Ba
     rw (s ∙ rows_step t seen left rest r (Err (j, kind)) l read.1, c, read.0) refl
 
 -- what a row more leaves
-pub record RowMore (t : TableDef) (key : Option ℕ) (new : List (List ℕ)) (ks : List Bool) (cs : List (List ℤ)) (n : ℕ) (later : ℤ → Option ℕ) (start : Result (List (List Value)) DataRefusal) (rest : List (List (List ℕ))) : Type 0 where
+pub record RowMore (t : TableDef) (key : Option ℕ) (new : List (List ℕ)) (ks : List Bool) (cs : List (List Slot)) (n : ℕ) (later : ℤ → Option ℕ) (start : Result (List (List Value)) DataRefusal) (rest : List (List (List ℕ))) : Type 0 where
   pub same : start ≡ rows_after t (rows_held new ks cs n) rest
   pub whole : AreColumns (length new) n ks cs
   pub texts_are : new ≡ noted [] (rows_texts (rows_held new ks cs n))
   pub keys : KeysPlaced key cs later
 
-pub row_more : (t : TableDef) (key : Option ℕ) (old new : List (List ℕ)) (ks : List Bool) (cs : List (List ℤ)) (zs : List ℤ) (n : ℕ) (earlier later : ℤ → Option ℕ) (left rest : List (List (List ℕ))) (r : List (List ℕ)) (start : Result (List (List Value)) DataRefusal)
+pub row_more : (t : TableDef) (key : Option ℕ) (old new : List (List ℕ)) (ks : List Bool) (cs : List (List Slot)) (zs : List Slot) (n : ℕ) (earlier later : ℤ → Option ℕ) (left rest : List (List (List ℕ))) (r : List (List ℕ)) (start : Result (List (List Value)) DataRefusal)
     → IfSome key (λ k. k < length ks) → start ≡ rows_after t (rows_held old ks cs n) left → AreColumns (length old) n ks cs → old ≡ noted [] (rows_texts (rows_held old ks cs n)) → KeysPlaced key cs earlier → left ≡ r ∷ rest
     → record_row t (rows_held old ks cs n) r ≡ Ok (values_of new ks zs) → AreCells (length new) ks zs → length zs ≡ length ks → new ≡ noted old (row_texts (values_of new ks zs)) → key_twice key earlier zs ≡ None
     → ((q : ℤ) → later q ≡ noted_places key zs (n + 1) earlier q) → RowMore t key new ks (with_cells cs zs) (n + 1) later start rest

@@ -1,8 +1,9 @@
 -- How many texts a table has at most: 64 in each of its rows.
-use Rattle.std.proofs.Common.{◌≡◌, ◌∙◌, ℕ, zero, suc, ◌+◌, ◌*◌, ◌<◌, ◌≤◌, ◌^◌, ℤ, Bool, true, false, cond, List, [], ◌∷◌, ◌++◌, length, get_or, sym, ap, arith, length-append}
+use Rattle.std.proofs.Common.{◌≡◌, ◌∙◌, ℕ, zero, suc, ◌+◌, ◌*◌, ◌<◌, ◌≤◌, ◌^◌, Bool, true, false, cond, Some, None, List, [], ◌∷◌, ◌++◌, length, get_or, sym, ap, arith, length-append}
 use Rattle.std.specs.List.{All, list_any}
 use Rattle.std.specs.Str.{bytes_eq}
 use Rattle.std.proofs.lemmas.List.{get_or-map, length-map}
+use Rattle.control_vectors.specs.Slots.{Slot}
 use Rattle.sql_read.specs.declared.definition.TableDef.{TableDef}
 use Rattle.sql_types.specs.Catalog.{findings}
 use Rattle.table_load.specs.Databases.{row_texts, rows_texts}
@@ -12,13 +13,14 @@ use Rattle.table_load.proofs.Limits.{few_columns, few_tables}
 use Rattle.table_load.proofs.Rowwise.{rows_texts-more}
 use Rattle.table_load.proofs.StoreFacts.{degrees, widths}
 
-row_few : (texts : List (List ℕ)) (ks : List Bool) (zs : List ℤ) → length (row_texts (values_of texts ks zs)) ≤ length ks
+row_few : (texts : List (List ℕ)) (ks : List Bool) (zs : List Slot) → length (row_texts (values_of texts ks zs)) ≤ length ks
 row_few texts [] zs = omega arith
 row_few texts (k ∷ ks) [] = omega arith
-row_few texts (true ∷ ks) (z ∷ zs) = omega (arith, row_few texts ks zs)
-row_few texts (false ∷ ks) (z ∷ zs) = omega (arith, row_few texts ks zs)
+row_few texts (k ∷ ks) (None ∷ zs) = omega (arith, row_few texts ks zs)
+row_few texts (true ∷ ks) (Some z ∷ zs) = omega (arith, row_few texts ks zs)
+row_few texts (false ∷ ks) (Some z ∷ zs) = omega (arith, row_few texts ks zs)
 
-rows_few : (texts : List (List ℕ)) (ks : List Bool) (cs : List (List ℤ)) (n : ℕ) → length ks ≤ 64 → length (rows_texts (rows_held texts ks cs n)) ≤ 64 * n
+rows_few : (texts : List (List ℕ)) (ks : List Bool) (cs : List (List Slot)) (n : ℕ) → length ks ≤ 64 → length (rows_texts (rows_held texts ks cs n)) ≤ 64 * n
 unfolding rows_to
 rows_few texts ks cs zero h = omega arith
 rows_few texts ks cs (suc n) h =
@@ -40,7 +42,7 @@ unfolding noted
 noted_few texts [] = omega arith
 noted_few texts (t ∷ more) = omega (arith, noted_few (note texts t) more, note_few texts t)
 
-pub held_few : (texts : List (List ℕ)) (ks : List Bool) (cs : List (List ℤ)) (n : ℕ) → IsHeld texts ks cs n → length ks ≤ 64 → length texts ≤ 2 ^ 26
+pub held_few : (texts : List (List ℕ)) (ks : List Bool) (cs : List (List Slot)) (n : ℕ) → IsHeld texts ks cs n → length ks ≤ 64 → length texts ≤ 2 ^ 26
 held_few texts ks cs n h few =
     omega (arith, ap length h.texts_are, noted_few [] (rows_texts (rows_held texts ks cs n)), rows_few texts ks cs n few, h.few)
 

@@ -1,5 +1,5 @@
 -- The vector of a table, from its columns.
-use Rattle.std.proofs.Common.{◌≡◌, ◌∙◌, ℕ, suc, ◌+◌, ◌<◌, ◌≤◌, ℤ, pos, negsuc, Bool, true, false, List, [], ◌∷◌, length, map, drop, get_or, Option, Some, refl, sym, ap, subst, inl, inr, ◌⊎◌, arith}
+use Rattle.std.proofs.Common.{◌≡◌, ◌∙◌, ℕ, suc, ◌+◌, ◌<◌, ◌≤◌, ℤ, pos, negsuc, Bool, true, false, List, [], ◌∷◌, length, map, drop, get_or, Option, Some, None, refl, sym, ap, subst, inl, inr, ◌⊎◌, arith}
 use Rattle.std.specs.List.{All, AllPairs}
 use Rattle.std.specs.List.Sorted.{IsStrictlySortedBy}
 use Rattle.std.specs.Ordering.{is_lt}
@@ -12,16 +12,17 @@ use Rattle.dict_codes.specs.Ascending.{ascending}
 use Rattle.dict_codes.specs.Dictionaries.{rank_in}
 use Rattle.dict_codes.proofs.AscendingLaws.{ascending-is}
 use Rattle.dict_codes.proofs.DictionaryLaws.{lt_less}
+use Rattle.control_vectors.specs.Slots.{Slot}
 use Rattle.sql_read.specs.declared.definition.ColumnDef.{ColumnDef}
 use Rattle.sql_read.specs.declared.definition.TableDef.{TableDef}
 use Rattle.sql_values.specs.Texts.{by_bytes}
 use Rattle.sql_values.specs.Values.{Value}
-use Rattle.struct_vectors.specs.Columns.{ColumnValue, narrow, some_slots}
+use Rattle.struct_vectors.specs.Columns.{ColumnValue, narrow}
 use Rattle.struct_vectors.specs.Vectors.{IsArranged, paths_of, vector_of, VectorValue}
-use Rattle.table_load.specs.Databases.{attributes_from, coded, column_of, vector_of_table}
-use Rattle.table_load.specs.HeldColumns.{AreColumns, IsCell, IsCode, row_at, rows_held, value_of}
+use Rattle.table_load.specs.Databases.{attributes_from, coded, column_of, in_64_bits, vector_of_table}
+use Rattle.table_load.specs.HeldColumns.{AreColumns, IsCell, IsCode, row_at, rows_held, value_in, value_of}
 use Rattle.table_load.specs.Values.{value_at}
-use Rattle.table_load.specs.Vectors.{attribute_in, attributes_in, cell_code, recoded}
+use Rattle.table_load.specs.Vectors.{attribute_in, attributes_in, cell_slot, code_at, recoded}
 use Rattle.table_load.proofs.KeyLaws.{column_held, column_whole}
 use Rattle.table_load.proofs.Rowwise.{length-rows_to}
 
@@ -49,20 +50,22 @@ arranged_is given n v e a =
 
 -- ---- columns with codes
 
-pub recoded_plain : (codes cells : List ℤ) → cells ≡ recoded codes false cells
+pub recoded_plain : (codes : List ℤ) (cells : List Slot) → cells ≡ recoded codes false cells
 recoded_plain codes [] = refl
 recoded_plain codes (z ∷ zs) = ap (λ l. z ∷ l) (recoded_plain codes zs)
 
-code_same : (dictionary texts : List (List ℕ)) (z : ℤ) → IsCode (length texts) z → coded dictionary (value_of texts true z) ≡ Some (cell_code (map (λ t. pos (rank_in dictionary t)) texts) true z)
+code_same : (dictionary texts : List (List ℕ)) (z : ℤ) → IsCode (length texts) z → coded dictionary (value_in texts true z) ≡ Some (code_at (map (λ t. pos (rank_in dictionary t)) texts) z)
 code_same dictionary texts (pos c) h = ap Some (sym (get_or-map (λ t. pos (rank_in dictionary t)) texts c [] (pos 0) h))
 code_same dictionary texts (negsuc c) h = absurd h
 
-cell_same : (dictionary texts : List (List ℕ)) (k : Bool) (z : ℤ) → IsCell (length texts) k z → coded dictionary (value_of texts k z) ≡ Some (cell_code (map (λ t. pos (rank_in dictionary t)) texts) k z)
-cell_same dictionary texts true z h = code_same dictionary texts z h
-cell_same dictionary texts false z h = refl
+cell_same : (dictionary texts : List (List ℕ)) (k : Bool) (z : Slot) → IsCell (length texts) k z → coded dictionary (value_of texts k z) ≡ cell_slot (map (λ t. pos (rank_in dictionary t)) texts) k z
+cell_same dictionary texts true None h = refl
+cell_same dictionary texts true (Some z) h = code_same dictionary texts z h
+cell_same dictionary texts false None h = refl
+cell_same dictionary texts false (Some z) h = refl
 
-slots_same : (dictionary texts : List (List ℕ)) (k : Bool) (cells : List ℤ) → All (IsCell (length texts) k) cells
-    → map (coded dictionary) (map (value_of texts k) cells) ≡ some_slots (recoded (map (λ t. pos (rank_in dictionary t)) texts) k cells)
+slots_same : (dictionary texts : List (List ℕ)) (k : Bool) (cells : List Slot) → All (IsCell (length texts) k) cells
+    → map (coded dictionary) (map (value_of texts k) cells) ≡ recoded (map (λ t. pos (rank_in dictionary t)) texts) k cells
 slots_same dictionary texts k [] h = refl
 slots_same dictionary texts k (z ∷ zs) h = rw (cell_same dictionary texts k z (h 0 z (omega arith)), slots_same dictionary texts k zs (λ i d l. h (suc i) d (omega arith))) refl
 
@@ -70,18 +73,18 @@ map_map : (f : Value → Option ℤ) (g : List Value → Value) (rows : List (Li
 map_map f g [] = refl
 map_map f g (r ∷ rows) = ap (λ l. f (g r) ∷ l) (map_map f g rows)
 
-column_same : (dictionary texts : List (List ℕ)) (n j : ℕ) (ks : List Bool) (cs : List (List ℤ)) → AreColumns (length texts) n ks cs → j < length ks
-    → column_of dictionary (rows_held texts ks cs n) j ≡ record { slots = some_slots (recoded (map (λ t. pos (rank_in dictionary t)) texts) (get_or ks j false) (get_or cs j [])); form = narrow }
+column_same : (dictionary texts : List (List ℕ)) (n j : ℕ) (ks : List Bool) (cs : List (List Slot)) → AreColumns (length texts) n ks cs → j < length ks
+    → column_of dictionary (rows_held texts ks cs n) j ≡ in_64_bits (recoded (map (λ t. pos (rank_in dictionary t)) texts) (get_or ks j false) (get_or cs j []))
 column_same dictionary texts n j ks cs w h =
     let rows = rows_held texts ks cs n in
-    let slots : map (λ row. coded dictionary (value_at j row)) rows ≡ some_slots (recoded (map (λ t. pos (rank_in dictionary t)) texts) (get_or ks j false) (get_or cs j [])) =
+    let slots : map (λ row. coded dictionary (value_at j row)) rows ≡ recoded (map (λ t. pos (rank_in dictionary t)) texts) (get_or ks j false) (get_or cs j []) =
     sym (map_map (coded dictionary) (value_at j) rows)
     ∙ ap (map (coded dictionary)) (column_held texts (length texts) n j ks cs w h)
     ∙ slots_same dictionary texts (get_or ks j false) (get_or cs j []) (column_whole (length texts) n j ks cs w h).1
     in
     rw slots refl
 
-pub attributes_same : (dictionary texts : List (List ℕ)) (n : ℕ) (ks : List Bool) (cs : List (List ℤ)) (j : ℕ) (some_ks : List Bool) (some_cs : List (List ℤ)) (defs : List ColumnDef) → AreColumns (length texts) n ks cs
+pub attributes_same : (dictionary texts : List (List ℕ)) (n : ℕ) (ks : List Bool) (cs : List (List Slot)) (j : ℕ) (some_ks : List Bool) (some_cs : List (List Slot)) (defs : List ColumnDef) → AreColumns (length texts) n ks cs
     → some_ks ≡ drop j ks → some_cs ≡ drop j cs → AreColumns (length texts) n some_ks some_cs → length some_ks ≡ length defs
     → attributes_from j dictionary (rows_held texts ks cs n) defs ≡ attributes_in (map (λ t. pos (rank_in dictionary t)) texts) some_ks some_cs defs
 attributes_same dictionary texts n ks cs j [] [] [] w a b v l = refl
@@ -98,14 +101,14 @@ attributes_same dictionary texts n ks cs j (k ∷ more) (x ∷ xs) (d ∷ ds) w 
 
 -- ---- one attribute more
 
-pub record NextAttribute (codes : List ℤ) (m n i : ℕ) (ks : List Bool) (defs : List ColumnDef) (x : List ℤ) (cs : List (List ℤ)) (d : ColumnDef) : Type 0 where
+pub record NextAttribute (codes : List ℤ) (m n i : ℕ) (ks : List Bool) (defs : List ColumnDef) (x : List Slot) (cs : List (List Slot)) (d : ColumnDef) : Type 0 where
   pub within : i < length ks
   pub as_many : length x ≡ n
   pub cells : All (IsCell m (get_or ks i false)) x
   pub whole : AreColumns m n (drop (i + 1) ks) cs
   pub is : attributes_in codes (drop i ks) (x ∷ cs) (drop i defs) ≡ attribute_in codes (get_or defs i d) (get_or ks i false) x ∷ attributes_in codes (drop (i + 1) ks) cs (drop (i + 1) defs)
 
-pub next_attribute : (codes : List ℤ) (m n i : ℕ) (ks : List Bool) (defs : List ColumnDef) (x : List ℤ) (cs : List (List ℤ)) (d : ColumnDef) → AreColumns m n (drop i ks) (x ∷ cs) → length ks ≡ length defs → NextAttribute codes m n i ks defs x cs d
+pub next_attribute : (codes : List ℤ) (m n i : ℕ) (ks : List Bool) (defs : List ColumnDef) (x : List Slot) (cs : List (List Slot)) (d : ColumnDef) → AreColumns m n (drop i ks) (x ∷ cs) → length ks ≡ length defs → NextAttribute codes m n i ks defs x cs d
 next_attribute codes m n i ks defs x cs d w l = by_place (cases_lt i (length ks))
   where
     by_place : (i < length ks) ⊎ (length ks ≤ i) → NextAttribute codes m n i ks defs x cs d
@@ -127,7 +130,7 @@ attributes_end codes m n [] (d ∷ ds) w = refl
 attributes_end codes m n (k ∷ ks) defs w = absurd w
 
 -- the vector of a table's attributes is the table's
-pub vector_same : (dictionary texts : List (List ℕ)) (ks : List Bool) (cs : List (List ℤ)) (n : ℕ) (def : TableDef) (codes : List ℤ) (attributes : List (List ℕ × ColumnValue)) → AreColumns (length texts) n ks cs → length ks ≡ length def.columns
+pub vector_same : (dictionary texts : List (List ℕ)) (ks : List Bool) (cs : List (List Slot)) (n : ℕ) (def : TableDef) (codes : List ℤ) (attributes : List (List ℕ × ColumnValue)) → AreColumns (length texts) n ks cs → length ks ≡ length def.columns
     → codes ≡ map (λ t. pos (rank_in dictionary t)) texts → attributes ≡ attributes_in codes ks cs def.columns
     → vector_of n (ascending (λ a b. by_bytes a.0 b.0) attributes) ≡ vector_of_table dictionary def (record { degree = length ks; rows = rows_held texts ks cs n })
 vector_same dictionary texts ks cs n def codes attributes w l c a =

@@ -7,7 +7,7 @@ use Rattle.sql_read.specs.declared.definition.ColumnDef.{ColumnDef}
 use Rattle.sql_read.specs.declared.definition.TableDef.{TableDef}
 use Rattle.sql_values.specs.Texts.{by_bytes}
 use Rattle.sql_values.specs.Values.{Value, number, text, truth, null}
-use Rattle.struct_vectors.specs.Columns.{ColumnValue, narrow}
+use Rattle.struct_vectors.specs.Columns.{ColumnValue, has_empty, listed_form}
 use Rattle.struct_vectors.specs.Vectors.{VectorValue, vector_of}
 use Rattle.table_load.specs.Values.{Table, value_at}
 
@@ -33,9 +33,13 @@ coded dictionary (truth false) = Some (pos 0)
 coded dictionary (truth true) = Some (pos 1)
 coded dictionary null = None
 
+-- slots that are kept in 64 bits, without empty ones exactly where none of them is empty
+abbrev pub in_64_bits : List Slot → ColumnValue
+in_64_bits slots = record { slots = slots; form = listed_form false (has_empty slots) }
+
 -- a column of some rows, counted from 0
 abbrev pub column_of : List (List ℕ) → List (List Value) → ℕ → ColumnValue
-column_of dictionary rows j = record { slots = map (λ row. coded dictionary (value_at j row)) rows; form = narrow }
+column_of dictionary rows j = in_64_bits (map (λ row. coded dictionary (value_at j row)) rows)
 
 -- the path of a column: a dot and its name
 abbrev pub path_of : ColumnDef → List ℕ

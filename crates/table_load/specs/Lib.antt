@@ -1,11 +1,9 @@
 pub mod Records
-pub mod Fields
 pub mod Values
 pub mod Tables
 pub mod Rules
 pub mod Databases
 pub mod HeldColumns
 pub mod Reading
-pub mod Columns
 pub mod Vectors
 pub mod Examples

@@ -42,7 +42,7 @@ named_column (k ∷ ks) columns = position_from (is_column_named k.column) 0 col
 abbrev pub key_place : TableDef → Option ℕ
 key_place t = named_column t.keys t.columns
 
--- the first of some rows, counted from 1, that has this value in the key's column
+-- the first of some rows, counted from 1, whose value in the key's column is equal to this one
 abbrev pub row_with_key : ℕ → List (List Value) → Value → Option ℕ
 row_with_key key rows v = position_from (λ row. same_value v (value_at key row)) 1 rows
 
@@ -85,7 +85,7 @@ most_rows = 1_048_576
 abbrev pub record_row : TableDef → List (List Value) → List (List ℕ) → Result (List Value) (ℕ × DataKind)
 record_row t seen fields =
     if nat_le most_rows (length seen) then Err (0, TooManyRows)
-    else if length fields == length t.columns then row_from 1 (with_key (key_place t) seen (field_values t.columns fields))
+    else if length fields == length t.columns then row_from 1 (with_key (key_place t) seen (field_values t t.columns fields))
     else Err (0, FieldCount)
 
 abbrev pub then_rows : Result (List Value) (ℕ × DataKind) → ℕ → (List Value → Result (List (List Value)) DataRefusal) → Result (List (List Value)) DataRefusal

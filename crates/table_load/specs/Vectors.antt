@@ -1,26 +1,32 @@
 -- The attributes of a table as it is held, with its texts as codes.
-use Rattle.std.specs.Prelude.{◌≡◌, ◌≢◌, ℕ, ◌≤◌, ◌==◌, ◌&&◌, ℤ, pos, Bool, true, false, List, [], ◌∷◌, length, map, slice_index_or}
+use Rattle.std.specs.Prelude.{◌≡◌, ◌≢◌, ℕ, ◌≤◌, ◌==◌, ◌&&◌, ℤ, pos, negsuc, Bool, true, false, List, [], ◌∷◌, length, map, slice_index_or}
 use Rattle.std.specs.List.{All, AllPairs}
+use Rattle.std.specs.Option.{option_map}
+use Rattle.control_vectors.specs.Slots.{Slot}
 use Rattle.sql_read.specs.declared.definition.ColumnDef.{ColumnDef}
 use Rattle.sql_read.specs.declared.definition.TableDef.{TableDef}
 use Rattle.sql_read.specs.Forms.{is_name, IsNamed}
-use Rattle.struct_vectors.specs.Columns.{ColumnValue, narrow, some_slots}
-use Rattle.table_load.specs.Databases.{path_of}
-use Rattle.table_load.specs.HeldColumns.{code_of}
+use Rattle.struct_vectors.specs.Columns.{ColumnValue}
+use Rattle.table_load.specs.Databases.{in_64_bits, path_of}
 
--- a cell as the number that a vector keeps, where the texts have these codes
-abbrev pub cell_code : List ℤ → Bool → ℤ → ℤ
-cell_code codes true z = slice_index_or codes (code_of z) (pos 0)
-cell_code codes false z = z
+-- the code of the text of a place, where the texts have these codes
+abbrev pub code_at : List ℤ → ℤ → ℤ
+code_at codes (pos n) = slice_index_or codes n (pos 0)
+code_at codes (negsuc n) = pos 0
 
-abbrev pub recoded : List ℤ → Bool → List ℤ → List ℤ
-recoded codes k cells = map (cell_code codes k) cells
+-- a cell as the slot that a vector has for it
+abbrev pub cell_slot : List ℤ → Bool → Slot → Slot
+cell_slot codes true cell = option_map (code_at codes) cell
+cell_slot codes false cell = cell
+
+abbrev pub recoded : List ℤ → Bool → List Slot → List Slot
+recoded codes k cells = map (cell_slot codes k) cells
 
 -- a column's attribute
-abbrev pub attribute_in : List ℤ → ColumnDef → Bool → List ℤ → List ℕ × ColumnValue
-attribute_in codes def k cells = (path_of def, record { slots = some_slots (recoded codes k cells); form = narrow })
+abbrev pub attribute_in : List ℤ → ColumnDef → Bool → List Slot → List ℕ × ColumnValue
+attribute_in codes def k cells = (path_of def, in_64_bits (recoded codes k cells))
 
-abbrev pub attributes_in : List ℤ → List Bool → List (List ℤ) → List ColumnDef → List (List ℕ × ColumnValue)
+abbrev pub attributes_in : List ℤ → List Bool → List (List Slot) → List ColumnDef → List (List ℕ × ColumnValue)
 attributes_in codes ks cs [] = []
 attributes_in codes [] cs (d ∷ ds) = []
 attributes_in codes (k ∷ ks) [] (d ∷ ds) = []

@@ -1,9 +1,9 @@
 //! Columns, cell by cell.
 
 ghost use Rattle.std.specs.Prelude.{◌≡◌, length, map, IfOk, OnOk};
-ghost use Rattle.table_load.specs.HeldColumns.{is_text_column, text_columns, with_cells};
-ghost use Rattle.table_load.specs.Columns.{columns_in, empty_columns};
+ghost use Rattle.table_load.specs.HeldColumns.{empty_columns, is_text_column, text_columns, with_cells};
 
+use crate::held::HeldColumn;
 use io_edge::NoMemory;
 use sql_read::{ColumnDef, ColumnKind};
 use std::alloc::Global;
@@ -26,19 +26,19 @@ fn is_text(column: &ColumnDef) -> bool
 }
 
 /// So many columns without a cell.
-pub fn empty_columns(alloc: Global, count: usize) -> Result<Vec<Vec<i64>>, NoMemory>
-    ensures { IfOk result (λ v. columns_in v.items ≡ empty_columns count) }
+pub fn empty_columns(alloc: Global, count: usize) -> Result<Vec<HeldColumn>, NoMemory>
+    ensures { IfOk result (λ v. v.items ≡ empty_columns count) }
 {
     let mut columns = Vec::with_capacity(alloc, count)?;
     for _ in 0..count {
-        columns.push(Vec::new(alloc))?;
+        columns.push(HeldColumn::new(alloc))?;
     }
     Ok(columns)
 }
 
 /// Adds a row: each cell at the end of its column.
-pub fn push_row(columns: &mut Vec<Vec<i64>>, cells: &[i64]) -> Result<(), NoMemory>
-    ensures { OnOk result (columns_in columns.new.items ≡ with_cells (columns_in columns.old.items) cells.now) }
+pub fn push_row(columns: &mut Vec<HeldColumn>, cells: &[Option<i64>]) -> Result<(), NoMemory>
+    ensures { OnOk result (columns.new.items ≡ with_cells columns.old.items cells.now) }
 {
     for i in 0..columns.len() {
         if i < cells.len() {

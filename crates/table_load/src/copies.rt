@@ -47,6 +47,8 @@ fn copied_column(alloc: Global, column: &ColumnDef) -> Result<ColumnDef, NoMemor
         kind: column.kind,
         width: column.width,
         width_at: column.width_at,
+        scale: column.scale,
+        scale_at: column.scale_at,
         not_null: column.not_null,
     })
 }

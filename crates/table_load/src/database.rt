@@ -19,8 +19,9 @@ use struct_vectors::Store;
 
 /// Tables with their definitions: a store with a vector for each, named as the table, and the dictionary of all texts.
 ///
-/// A vector has an attribute for each column, a dot and the column's name. Its slots are kept as i64, none of them empty: a
-/// date is its day number, with 1970-01-01 as 0, and a text is its code in the dictionary.
+/// A vector has an attribute for each column, a dot and the column's name. Its slots are kept as i64, without empties exactly where
+/// none of them is empty. A null is an empty slot, a decimal the number of its units, a date its day number, with 1970-01-01 as 0,
+/// and a text its code in the dictionary.
 #[derive(Drop)]
 pub struct Database {
     defs: Vec<TableDef>,

@@ -1,11 +1,12 @@
 //! Keys.
 
-ghost use Rattle.std.specs.Prelude.{◌≡◌, ◌≤◌, ◌<◌, ℕ, ℤ, length, Some, None, IfSome, IfErr, OnOk, slice_get, if◌then◌else◌};
+ghost use Rattle.std.specs.Prelude.{◌≡◌, ◌≤◌, ◌<◌, ℤ, length, IfSome, OnOk};
 ghost use Rattle.std.specs.HashMap.{get};
 ghost use Rattle.std.specs.Ordering.{int_eq};
 ghost use Rattle.std.specs.List.{position_from};
 ghost use Rattle.sql_types.specs.Catalog.{is_column_named};
 ghost use Rattle.table_load.specs.Reading.{key_twice, noted_places};
+ghost use Rattle.table_load.specs.Reading as reading;
 ghost use Rattle.table_load.specs.Tables as spec;
 
 use io_edge::NoMemory;
@@ -37,18 +38,28 @@ fn named_column(columns: &[ColumnDef], name: &str) -> Option<usize>
     None
 }
 
+/// The number of a key's cell, unless it is empty.
+fn key_cell(cells: &[Option<i64>], key: usize) -> Option<i64>
+    ensures { result ≡ reading.key_cell key cells.now }
+{
+    match cells.get(key) {
+        Some(cell) => *cell,
+        None => None,
+    }
+}
+
 /// Where a record's key stands in an earlier record: the key's column, counted from 1, and that record.
 pub fn key_twice(
     key: Option<usize>,
-    cells: &[i64],
+    cells: &[Option<i64>],
     places: &HashMap<i64, u32>,
 ) -> Option<(u32, u32)>
     requires few { length cells.now ≤ 64 }
     ensures { result ≡ key_twice key (λ q. get int_eq places.now q) cells.now }
 {
     let key = key?;
-    let cell = cells.get(key).copied()?;
-    let earlier = places.get(&cell).copied()?;
+    let number = key_cell(cells, key)?;
+    let earlier = places.get(&number).copied()?;
     Some((key as u32 + 1, earlier))
 }
 
@@ -56,7 +67,7 @@ pub fn key_twice(
 pub fn note_key(
     places: &mut HashMap<i64, u32>,
     key: Option<usize>,
-    cells: &[i64],
+    cells: &[Option<i64>],
     row: u32,
 ) -> Result<(), NoMemory>
     ensures { OnOk result ((q : ℤ) → get int_eq places.new q ≡ noted_places key cells.now row (λ q. get int_eq places.old q) q) }
@@ -64,10 +75,10 @@ pub fn note_key(
     let Some(key) = key else {
         return Ok(());
     };
-    let Some(cell) = cells.get(key).copied() else {
+    let Some(number) = key_cell(cells, key) else {
         return Ok(());
     };
-    match places.insert(cell, row) {
+    match places.insert(number, row) {
         Ok(_) => Ok(()),
         Err(_) => Err(AllocError),
     }

@@ -7,7 +7,7 @@ mod database;
 mod dictionaries;
 mod fields;
 mod header;
-mod integers;
+mod held;
 mod keys;
 pub mod laws;
 mod loading;

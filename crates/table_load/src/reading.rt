@@ -31,7 +31,7 @@ pub fn read_record(
     row: &ByteRecord,
     places: &HashMap<i64, u32>,
     texts: &mut Texts,
-    cells: &mut Vec<i64>,
+    cells: &mut Vec<Option<i64>>,
 ) -> Result<(), DataRefusal>
     requires few { length def.now.columns ≤ 64 }
     requires key { key ≡ key_place def.now }
@@ -48,7 +48,7 @@ pub fn read_record(
     if row.len() != def.columns.len() {
         return Err(refused(count, 0, DataKind::FieldCount));
     }
-    let stop = read_fields(alloc, def.columns.as_slice(), row, texts, cells)?;
+    let stop = read_fields(alloc, def, row, texts, cells)?;
     // The key's field stands before whatever is refused to the right of it.
     if let Some((column, earlier)) = key_twice(key, cells.as_slice(), places) {
         return Err(refused(count, column, DataKind::KeyTwice(earlier)));

@@ -24,6 +24,10 @@ pub enum DataKind {
     NotText,
     /// The text has more bytes than its column is wide.
     TextTooLong,
+    /// The field is not an optional `-` and digits with at most one point before, among or after them.
+    NotDecimal,
+    /// The decimal has a digit other than 0 behind its scale, or more digits by its value than its precision.
+    DecimalRange,
     /// The data record of this number, an earlier one, has the same key.
     KeyTwice(u32),
 }

@@ -7,13 +7,13 @@ ghost use Rattle.sql_read.specs.Forms.{is_name, IsFormed, IsNamed};
 ghost use Rattle.sql_types.specs.Catalog.{findings};
 ghost use Rattle.sql_values.specs.Texts.{by_bytes};
 ghost use Rattle.struct_vectors.specs.Vectors.{HaveLength, paths_of, vector_of};
-ghost use Rattle.table_load.specs.Columns.{columns_in};
 ghost use Rattle.table_load.specs.Databases.{store_of, vector_of_table};
-ghost use Rattle.table_load.specs.HeldColumns.{AreColumns, IsCell, IsCode};
-ghost use Rattle.table_load.specs.Vectors.{AreColumnPaths, HasColumns, attribute_in, attributes_in, cell_code, recoded};
+ghost use Rattle.table_load.specs.HeldColumns.{AreColumns};
+ghost use Rattle.table_load.specs.Vectors.{AreColumnPaths, HasColumns, attribute_in, attributes_in};
 
 use crate::RawTable;
 use crate::dictionaries::codes_of;
+use crate::held::HeldColumn;
 use dict_codes::Dictionary;
 use io_edge::{Name, NoMemory};
 use key_paths::Path;
@@ -117,20 +117,20 @@ fn vector_of_attributes(
 fn attributes_of(
     alloc: Global,
     defs: &[ColumnDef],
-    columns: Vec<Vec<i64>>,
+    columns: Vec<HeldColumn>,
     are_texts: &[bool],
     codes: &[i64],
 ) -> Result<Vec<(Path, Column)>, NoMemory>
-    requires whole { (n : ℕ) × (n ≤ 2 ^ 20) × AreColumns (length codes.now) n are_texts.now (columns_in columns.items) }
+    requires whole { (m : ℕ) × (n : ℕ) × (n ≤ 2 ^ 20) × AreColumns m n are_texts.now columns.items }
     requires lengths { length are_texts.now ≡ length defs.now }
     requires named { All IsNamed defs.now }
-    ensures { IfOk result (λ v. v.items ≡ attributes_in codes.now are_texts.now (columns_in columns.items) defs.now) }
+    ensures { IfOk result (λ v. v.items ≡ attributes_in codes.now are_texts.now columns.items defs.now) }
 {
     let mut attributes = Vec::with_capacity(alloc, defs.len())?;
     let mut i = 0;
-    for numbers in columns {
+    for column in columns {
         if i < defs.len() && i < are_texts.len() {
-            attributes.push(attribute_of(alloc, &defs[i], numbers, are_texts[i], codes)?)?;
+            attributes.push(attribute_of(alloc, &defs[i], column, are_texts[i], codes)?)?;
             i += 1;
         }
     }
@@ -141,21 +141,20 @@ fn attributes_of(
 fn attribute_of(
     alloc: Global,
     def: &ColumnDef,
-    numbers: Vec<i64>,
+    column: HeldColumn,
     is_text: bool,
     codes: &[i64],
 ) -> Result<(Path, Column), NoMemory>
     requires named { IsNamed def.now }
-    requires few { length numbers.items ≤ 2 ^ 22 }
-    requires cells { All (IsCell (length codes.now) is_text) numbers.items }
-    ensures { IfOk result (λ a. a ≡ attribute_in codes.now def.now is_text numbers.items) }
+    requires few { length column ≤ 2 ^ 22 }
+    ensures { IfOk result (λ a. a ≡ attribute_in codes.now def.now is_text column) }
 {
     let path = path_of(alloc, def.name.text())?;
     if !is_text {
-        return Ok((path, Column::narrow(numbers)));
+        return Ok((path, column.into_column()?));
     }
-    let numbers = recoded(alloc, numbers.as_slice(), codes)?;
-    Ok((path, Column::narrow(numbers)))
+    let column = column.recoded(alloc, codes)?;
+    Ok((path, column.into_column()?))
 }
 
 /// The path of a column: a dot and its name.
@@ -167,25 +166,4 @@ fn path_of(alloc: Global, name: &str) -> Result<Path, NoMemory>
     text.push('.')?;
     text.push_str(name)?;
     Path::of(alloc, text.as_str())
-}
-
-/// The codes of the texts that cells name.
-fn recoded(alloc: Global, cells: &[i64], codes: &[i64]) -> Result<Vec<i64>, NoMemory>
-    requires { All (IsCell (length codes.now) true) cells.now }
-    ensures codes { IfOk result (λ v. v.items ≡ recoded codes.now true cells.now) }
-    ensures as_many { IfOk result (λ v. length v.items ≡ length cells.now) }
-{
-    let mut numbers = Vec::with_capacity(alloc, cells.len())?;
-    for cell in cells {
-        numbers.push(code_at(codes, *cell))?;
-    }
-    Ok(numbers)
-}
-
-/// The code of the text that a cell names.
-fn code_at(codes: &[i64], cell: i64) -> i64
-    requires { IsCode (length codes.now) cell }
-    ensures { result ≡ cell_code codes.now true cell }
-{
-    codes[cell as usize]
 }

@@ -1,10 +1,9 @@
 use Rattle.std.proofs.Common.{◌≡◌, length, take}
-use Rattle.table_load.specs.Columns.{columns_in}
 use Rattle.table_load.specs.HeldColumns.{with_cells}
 use Rattle.table_load.proofs.columns.push_row.Given as goal
 
 abbrev pub invariant-loop-i : goal.invariant-loop-i
 invariant-loop-i l = record {
-  so_far : columns_in l.columns.items ≡ with_cells (columns_in l.fn.columns.items) (take l.i l.cells);
+  so_far : l.columns.items ≡ with_cells l.fn.columns.items (take l.i l.cells);
   as_many : length l.columns.items ≡ length l.fn.columns.items;
 }

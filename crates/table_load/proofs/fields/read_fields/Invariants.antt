@@ -8,8 +8,8 @@ use Rattle.table_load.proofs.fields.read_fields.Given as goal
 
 abbrev pub invariant-columns : goal.invariant-columns
 invariant-columns l = record {
-  values : field_values l.columns (fields_of l.row) ≡ oks (values_of l.texts (text_columns l.columns) l.cells.items) ++ field_values (drop l.i l.columns) (drop l.i (fields_of l.row));
-  cells : AreCells (length l.texts) (text_columns l.columns) l.cells.items;
-  noted_are : l.texts ≡ noted l.fn.texts (row_texts (values_of l.texts (text_columns l.columns) l.cells.items));
+  values : field_values l.def l.def.columns (fields_of l.row) ≡ oks (values_of l.texts (text_columns l.def.columns) l.cells.items) ++ field_values l.def (drop l.i l.def.columns) (drop l.i (fields_of l.row));
+  cells : AreCells (length l.texts) (text_columns l.def.columns) l.cells.items;
+  noted_are : l.texts ≡ noted l.fn.texts (row_texts (values_of l.texts (text_columns l.def.columns) l.cells.items));
   as_many : length l.cells.items ≡ l.i;
 }

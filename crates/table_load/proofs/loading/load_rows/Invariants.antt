@@ -1,7 +1,6 @@
 use Rattle.std.proofs.Common.{◌≡◌, ◌≤◌, ◌^◌, [], length}
 use Rattle.std.specs.HashMap.{get}
 use Rattle.std.specs.Ordering.{int_eq}
-use Rattle.table_load.specs.Columns.{columns_in}
 use Rattle.table_load.specs.Databases.{rows_texts}
 use Rattle.table_load.specs.HeldColumns.{AreColumns, noted, rows_held, text_columns}
 use Rattle.table_load.specs.Tables.{rows_after}
@@ -10,10 +9,10 @@ use Rattle.table_load.proofs.loading.load_rows.Given as goal
 
 abbrev pub invariant-rows : goal.invariant-rows
 invariant-rows l = record {
-  same : rows_after l.def [] l.fn.records ≡ rows_after l.def (rows_held l.texts (text_columns l.def.columns) (columns_in l.columns.items) l.count) l.records;
-  whole : AreColumns (length l.texts) l.count (text_columns l.def.columns) (columns_in l.columns.items);
-  texts_are : l.texts ≡ noted [] (rows_texts (rows_held l.texts (text_columns l.def.columns) (columns_in l.columns.items) l.count));
-  keys : KeysPlaced l.key (columns_in l.columns.items) (λ q. get int_eq l.places q);
+  same : rows_after l.def [] l.fn.records ≡ rows_after l.def (rows_held l.texts (text_columns l.def.columns) l.columns.items l.count) l.records;
+  whole : AreColumns (length l.texts) l.count (text_columns l.def.columns) l.columns.items;
+  texts_are : l.texts ≡ noted [] (rows_texts (rows_held l.texts (text_columns l.def.columns) l.columns.items l.count));
+  keys : KeysPlaced l.key l.columns.items (λ q. get int_eq l.places q);
   few : l.count ≤ 2 ^ 20;
 }
 

@@ -25,15 +25,15 @@ returns-in-Some-clause-reads c = λ seen len agree.
     let earlier : ℤ → Option ℕ = λ q. get int_eq c.args.places.now q in
     let rows : length seen < 1_048_576 = omega (arith, len, c.if-count-ge-MOST_ROWS.false) in
     let same : length fields ≡ length t.columns = search rules in
-    let read = rw c.as_slice.ensures at c.in_ok-stop.ensures.reads in
-    let are_cells = rw c.as_slice.ensures at c.in_ok-stop.ensures.cells in
-    let no_more : length cells ≤ length t.columns = rw c.as_slice.ensures at c.in_ok-stop.ensures.short in
+    let read = c.in_ok-stop.ensures.reads in
+    let are_cells = c.in_ok-stop.ensures.cells in
+    let no_more : length cells ≤ length t.columns = c.in_ok-stop.ensures.short in
     let short : length cells ≤ length ks = omega (arith, no_more, length-map t.columns is_text_column) in
-    let twice = sym (rw c.as_slice-2.ensures.value at c.in-Some.ensures) in
+    let twice = sym (rw c.as_slice.ensures.value at c.in-Some.ensures) in
     rw c.refused-in-Some.ensures (
       refl,
       record_read t seen fields rows same ∙ rw (← c.requires.key)
-          (read_twice texts ks cells c.args.key seen earlier c.in-Some.column c.in-Some.earlier c.in_ok-stop.stop (field_values t.columns fields) read short are_cells agree twice),
+          (read_twice texts ks cells c.args.key seen earlier c.in-Some.column c.in-Some.earlier c.in_ok-stop.stop (field_values t t.columns fields) read short are_cells agree twice),
     )
 
 pub returns-in-None-clause-reads : goal.returns-in-None-clause-reads
@@ -46,13 +46,13 @@ returns-in-None-clause-reads c = λ seen len agree.
     let earlier : ℤ → Option ℕ = λ q. get int_eq c.args.places.now q in
     let rows : length seen < 1_048_576 = omega (arith, len, c.if-count-ge-MOST_ROWS.false) in
     let same : length fields ≡ length t.columns = search rules in
-    let read = rw c.as_slice.ensures at c.in_ok-stop.ensures.reads in
-    let are_cells = rw c.as_slice.ensures at c.in_ok-stop.ensures.cells in
-    let no_more : length cells ≤ length t.columns = rw c.as_slice.ensures at c.in_ok-stop.ensures.short in
+    let read = c.in_ok-stop.ensures.reads in
+    let are_cells = c.in_ok-stop.ensures.cells in
+    let no_more : length cells ≤ length t.columns = c.in_ok-stop.ensures.short in
     let short : length cells ≤ length ks = omega (arith, no_more, length-map t.columns is_text_column) in
-    let once = sym (rw c.as_slice-2.ensures.value at c.in_default.ensures) in
+    let once = sym (rw c.as_slice.ensures.value at c.in_default.ensures) in
     let reads = rw c.in-None.is at read in (
-      record_read t seen fields rows same ∙ rw (← c.requires.key) (read_all texts ks cells c.args.key seen earlier (field_values t.columns fields) reads are_cells agree once),
+      record_read t seen fields rows same ∙ rw (← c.requires.key) (read_all texts ks cells c.args.key seen earlier (field_values t t.columns fields) reads are_cells agree once),
       are_cells,
       reads.1,
     )
@@ -67,14 +67,14 @@ returns-in-Some-stop-clause-reads c = λ seen len agree.
     let earlier : ℤ → Option ℕ = λ q. get int_eq c.args.places.now q in
     let rows : length seen < 1_048_576 = omega (arith, len, c.if-count-ge-MOST_ROWS.false) in
     let same : length fields ≡ length t.columns = search rules in
-    let read = rw c.as_slice.ensures at c.in_ok-stop.ensures.reads in
-    let are_cells = rw c.as_slice.ensures at c.in_ok-stop.ensures.cells in
-    let no_more : length cells ≤ length t.columns = rw c.as_slice.ensures at c.in_ok-stop.ensures.short in
+    let read = c.in_ok-stop.ensures.reads in
+    let are_cells = c.in_ok-stop.ensures.cells in
+    let no_more : length cells ≤ length t.columns = c.in_ok-stop.ensures.short in
     let short : length cells ≤ length ks = omega (arith, no_more, length-map t.columns is_text_column) in
-    let once = sym (rw c.as_slice-2.ensures.value at c.in_default.ensures) in
+    let once = sym (rw c.as_slice.ensures.value at c.in_default.ensures) in
     let reads = rw c.in-Some-stop.is at read in
     rw c.refused-in-Some-stop.ensures (
       refl,
       record_read t seen fields rows same ∙ rw (← c.requires.key)
-          (read_stopped texts ks cells c.args.key seen earlier c.in-Some-stop.column c.in-Some-stop.kind (field_values t.columns fields) reads short are_cells agree once),
+          (read_stopped texts ks cells c.args.key seen earlier c.in-Some-stop.column c.in-Some-stop.kind (field_values t t.columns fields) reads short are_cells agree once),
     )

@@ -1,12 +1,9 @@
-use Rattle.table_load.proofs.ColumnNames.{are_paths, below_root, no_clash, no_other}
+use Rattle.table_load.proofs.ColumnNames.{below_root, no_clash, no_other}
 use Rattle.table_load.proofs.VectorFacts.{arranged_is}
 use Rattle.table_load.proofs.vectors.vector_of_attributes.Goals as goal
 
 pub returns-in-Ok : goal.returns-in-Ok
 returns-in-Ok c = arranged_is c.args.attributes.items c.args.count c.in-Ok.vector c.in-Ok.ensures.length c.in-Ok.ensures.attributes
-
-pub new-requires-clause-paths : goal.new-requires-clause-paths
-new-requires-clause-paths c = are_paths _ c.requires.paths
 
 pub new-requires-clause-named : goal.new-requires-clause-named
 new-requires-clause-named c = below_root c.args.attributes.items c.requires.paths
