@@ -1,0 +1,10 @@
+pub mod Worked
+pub mod Strict
+pub mod KeyOrders
+pub mod Runs
+pub mod Groups
+pub mod Lists
+pub mod Joins
+pub mod Folds
+pub mod SlotFolds
+pub mod Plans

@@ -1,0 +1,4 @@
+//! The relational answer of a query, and its laws.
+#![tactic(auto)]
+
+pub mod laws;
