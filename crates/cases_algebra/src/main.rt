@@ -11,7 +11,7 @@
 //! | `run v = Zip(t, r)` | runs it with `Persist(out, v)` behind it, and prints the results' lengths, paths and columns |
 //! | `run` | runs it as it stands |
 //! | `print`, `size` | runs it, and prints the text of the results; how many bytes it has, and the last ones |
-//! | `total 5 -9 1` | the total of a column by its own program |
+//! | `total 5 - 1` | the total of a column by its own program; `-` is an empty slot |
 //! | `rows /c1/a,b\|c` | rows of fields as text, each behind a `/` |
 //!
 //! A text has the escapes of the crate `case_text`. The program is empty again after each but the first three. A line that
