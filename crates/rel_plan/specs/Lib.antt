@@ -1,0 +1,4 @@
+pub mod Plans
+pub mod Pushes
+pub mod Prunes
+pub mod Examples
