@@ -9,4 +9,7 @@ mod Lenient
 mod LenientQueries
 mod QueryLaws
 mod LiteralLaws
+mod Keeping
+mod MeasuredForms
+pub mod NumberLaws
 mod Examples

@@ -9,4 +9,5 @@ pub mod Clauses
 pub mod ExpressionParsers
 pub mod ClauseParsers
 pub mod QueryText
+pub mod Numbers
 pub mod Examples

@@ -5,6 +5,7 @@ ghost use Rattle.phrases.specs.Parsers.{ended, Ends};
 ghost use Rattle.sql_read.specs.SchemaText.{place_of, kind_at};
 ghost use Rattle.query_read.specs.Asked.{all};
 ghost use Rattle.query_read.specs.ClauseParsers as parsers;
+ghost use Rattle.query_read.specs.Numbers.{IsMeasured};
 ghost use Rattle.query_read.specs.QueryText.{query_of, read_tokens, query_tokens, refusal_at, kind_of, tokens_before, IsQuery, IsRefusal};
 ghost use Rattle.query_trees.specs.declared.query.Query.{Query as Tree};
 ghost use Rattle.sql_read.specs.declared.refusal.SqlRefusal.TheVariants.{NoMemory};
@@ -138,6 +139,8 @@ pub fn read_query(alloc: Global, bytes: &[u8]) -> Result<Query, SqlRefusal>
     requires { length bytes.now < 2 ^ 32 }
     // What is read is that query.
     ensures found { IfOk result (IsQuery bytes.now) }
+    // Its numbers have at most 18 digits after the point, and a value of at most 2^127 - 1.
+    ensures measured { IfOk result IsMeasured }
     // A query is read, and as no other, unless memory runs out.
     ensures only { (q : Tree) → IsQuery bytes.now q → MatchResult result (λ r. r ≡ q) (λ e. e ≡ NoMemory) }
     // What is refused is refused at its first refusal.
