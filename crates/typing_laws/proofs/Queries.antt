@@ -1,6 +1,7 @@
 -- A query that has a typed form is typed, over the columns of the catalog.
 use Rattle.std.proofs.Common.{◌≡◌, ℕ, Bool, true, false, List, [], length, Option, Some, None, Ok, subst}
 use Rattle.std.specs.Prelude.{All}
+use Rattle.std.specs.List.{slice_get}
 use Rattle.std.specs.Option.{ForSome}
 use Rattle.std.proofs.lemmas.List.Elements.{All-nil, All-same, All-weaker}
 use Rattle.sql_read.specs.declared.definition.TableDef.{TableDef}
@@ -9,6 +10,7 @@ use Rattle.query_trees.specs.declared.query.Query.{Query}
 use Rattle.typed_trees.specs.declared.typed.Aggregate.{Aggregate}
 use Rattle.typed_trees.specs.declared.typed.ColumnRef.{ColumnRef}
 use Rattle.typed_trees.specs.declared.typed.OrderKey.{OrderKey}
+use Rattle.typed_trees.specs.declared.typed.PlanSource.{PlanSource}
 use Rattle.typed_trees.specs.declared.typed.TypedExpr.{TypedExpr}
 use Rattle.typed_trees.specs.declared.typed.TypedQuery.{TypedQuery}
 use Rattle.typed_trees.specs.Kinds.{is_truth}
@@ -26,7 +28,7 @@ use Rattle.query_types.specs.Ordering.{keys}
 use Rattle.query_types.specs.Sources.{tables_of}
 use Rattle.query_types.specs.Typing.{filter, having, scope_of, answered_with, answer, query_of, typed_over, typed_query}
 use Rattle.query_types.proofs.OutcomeLaws.{ok_same, then_ok}
-use Rattle.typing_laws.specs.Laws.{AreDeclared, IsColumn, IsKey, IsOfCatalog, TypedLaw, ColumnLaw}
+use Rattle.typing_laws.specs.Laws.{AreDeclared, IsColumn, IsKey, IsTable, IsOfCatalog, TypedLaw, ColumnLaw}
 use Rattle.typing_laws.proofs.Columns.{places}
 use Rattle.typing_laws.proofs.Grown.{IsGood, grown_then, Sees}
 use Rattle.typing_laws.proofs.Keys.{group_columns, order_keys}
@@ -95,8 +97,9 @@ Declares defs t ps =
     × All (AreDeclared defs ps) t.items
     × All (IsColumn defs ps) t.groups
     × All (λ k. IsKey defs ps (length t.items) k.key) t.order
+    × ((s : ℕ) (x : PlanSource) → slice_get t.sources s ≡ Some x → IsTable defs ps s x)
 
-whole : (defs : List TableDef) (f : Tables) (ps : List TypedExpr) (groups : List ColumnRef) (a : Answered) → AreTables f → All (IsPart no_aggregate defs (places f.called)) ps → All (IsColumn defs (places f.called)) groups → IsAnswer defs f.called a → IsWhole defs (query_of f ps groups a)
+whole : (defs : List TableDef) (f : Tables) (ps : List TypedExpr) (groups : List ColumnRef) (a : Answered) → AreTables defs f → All (IsPart no_aggregate defs (places f.called)) ps → All (IsColumn defs (places f.called)) groups → IsAnswer defs f.called a → IsWhole defs (query_of f ps groups a)
 whole defs f ps groups a tables conditions columns h =
     let here = places f.called in
     let at = types_of a.aggregates in
@@ -108,6 +111,7 @@ whole defs f ps groups a tables conditions columns h =
       h.columns,
       columns,
       h.order,
+      tables.known,
     ) in
     let moved : Declares defs t (table_places f.sources) = subst (λ qs. Declares defs t qs) tables.same declared in
     record {
@@ -125,11 +129,12 @@ whole defs f ps groups a tables conditions columns h =
         items = moved.3;
         groups = moved.4;
         order = moved.5;
+        sources = moved.6;
         names = h.names;
       };
     }
 
-over_whole : (defs : List TableDef) (q : Query) (f : Tables) (t : TypedQuery) → AreTables f → typed_over defs q f ≡ Ok t → IsWhole defs t
+over_whole : (defs : List TableDef) (q : Query) (f : Tables) (t : TypedQuery) → AreTables defs f → typed_over defs q f ≡ Ok t → IsWhole defs t
 unfolding typed_over
 over_whole defs q f t tables is =
     let x = then_ok (filter (on_rows defs f.called) q.filter) _ t is in

@@ -1,17 +1,21 @@
 -- What holds of every query that is typed over a catalog: it is typed, and its columns have the types that the catalog gives them.
-use Rattle.std.specs.Prelude.{◌≡◌, ℕ, ◌<◌, List, All, length, map, slice_get, Option, Some, Ok, IsSome}
+use Rattle.std.specs.Prelude.{◌≡◌, ℕ, ◌<◌, true, List, All, length, map, slice_get, Option, Some, Ok, IsSome}
+use Rattle.std.specs.List.{range_with_len}
 use Rattle.std.specs.Option.{option_map, option_and_then, ForSome}
+use Rattle.sql_read.specs.declared.definition.ColumnDef.{ColumnDef}
 use Rattle.sql_read.specs.declared.definition.TableDef.{TableDef}
 use Rattle.query_trees.specs.declared.query.Query.{Query}
 use Rattle.typed_trees.specs.declared.typed.ColumnRef.{ColumnRef}
 use Rattle.typed_trees.specs.declared.typed.ColumnType.{ColumnType}
 use Rattle.typed_trees.specs.declared.typed.KeyRef.{KeyRef}
 use Rattle.typed_trees.specs.declared.typed.KeyRef.TheVariants as key
+use Rattle.typed_trees.specs.declared.typed.PlanSource.{PlanSource}
 use Rattle.typed_trees.specs.declared.typed.TypedExpr.{TypedExpr}
 use Rattle.typed_trees.specs.declared.typed.TypedQuery.{TypedQuery}
 use Rattle.typed_trees.specs.Columns.{columns_in}
 use Rattle.typed_trees.specs.Typed.{IsTyped}
 use Rattle.query_types.specs.Names.{columns_of, type_of_column}
+use Rattle.query_types.specs.Sources.{is_key, same_types}
 use Rattle.query_types.specs.Typing.{typed_query}
 
 -- a query that has a typed form is typed
@@ -42,7 +46,24 @@ IsKey defs places items (key.Column c) = IsColumn defs places c
 abbrev pub places_of : TypedQuery → List ℕ
 places_of t = map (λ s. s.table) t.sources
 
+-- a key join pairs a column to the left of the s-th table with that table's own key, of one type
+pub record IsJoin (defs : List TableDef) (places : List ℕ) (s table : ℕ) (j : ColumnRef × ℕ) : Type 0 where
+  pub own : ColumnDef
+  pub type : ColumnType
+  pub left : j.0.source < s
+  pub left_type : column_at defs places j.0 ≡ Some type
+  pub own_column : slice_get (columns_of defs table) j.1 ≡ Some own
+  pub key : is_key defs table own.name ≡ true
+  pub one_type : same_types (type_of_column own) type ≡ true
+
+-- the s-th table of FROM is one of the catalog, with all its columns
+pub record IsTable (defs : List TableDef) (places : List ℕ) (s : ℕ) (x : PlanSource) : Type 0 where
+  pub known : x.table < length defs
+  pub columns : x.columns ≡ range_with_len 0 (length (columns_of defs x.table))
+  pub join : ForSome x.join (IsJoin defs places s x.table)
+
 pub record IsOfCatalog (defs : List TableDef) (t : TypedQuery) : Type 0 where
+  pub sources : (s : ℕ) (x : PlanSource) → slice_get t.sources s ≡ Some x → IsTable defs (places_of t) s x
   pub filter : All (AreDeclared defs (places_of t)) t.filter
   pub aggregates : All (λ a. ForSome a.argument (AreDeclared defs (places_of t))) t.aggregates
   pub having : ForSome t.having (AreDeclared defs (places_of t))

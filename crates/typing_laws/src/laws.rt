@@ -8,7 +8,8 @@ pub fn typed_law()
     ensures { TypedLaw }
 {}
 
-/// Each column of a query that has a typed form is one of its tables, and has the type of its definition.
+/// Each column of a query that has a typed form is one of its tables, and has the type of its definition; each table is one of the catalog, and a key
+/// join pairs a column to its left with its own key, of one type.
 pub fn column_law()
     ensures { ColumnLaw }
 {}
