@@ -1,3 +1,4 @@
 mod Examples
 mod CappedLaws
 mod DecimalLaws
+pub mod RangeLaws

@@ -3,4 +3,5 @@ pub mod Integers
 pub mod Decimals
 pub mod Capped
 pub mod Laws
+pub mod Ranges
 pub mod Examples
