@@ -186,7 +186,7 @@ eq_is Equal e = refl
 eq_is Greater e = absurd cc
 
 -- values that are equal are one
-same_is : (v w : Value) → same_value v w ≡ true → v ≡ w
+pub same_is : (v w : Value) → same_value v w ≡ true → v ≡ w
 same_is null w e = absurd cc
 same_is (number x) w e = value_order.alike (number x) w (eq_is (by_value (number x) w) e)
 same_is (text x) w e = value_order.alike (text x) w (eq_is (by_value (text x) w) e)

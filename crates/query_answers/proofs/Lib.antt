@@ -8,3 +8,4 @@ pub mod Joins
 pub mod Folds
 pub mod SlotFolds
 pub mod Plans
+pub mod LoadedKeys

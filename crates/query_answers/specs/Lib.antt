@@ -4,4 +4,5 @@ pub mod Answers
 pub mod Runs
 pub mod Laws
 pub mod FoldLaws
+pub mod LoadedKeys
 pub mod Examples

@@ -2,6 +2,7 @@
 
 ghost use Rattle.query_answers.specs.Examples.{Decimals, Nulls, Rows, Steps, Totals};
 ghost use Rattle.query_answers.specs.FoldLaws.{ArgumentLaws, PartLaws, SlotLaws};
+ghost use Rattle.query_answers.specs.LoadedKeys.{LoadedKey};
 ghost use Rattle.query_answers.specs.Laws.{JoinLaws, KeptLaws, OrderLaws, PlanLaws, RunLaws};
 
 /// Aggregates without GROUP BY, worked out.
@@ -59,4 +60,9 @@ pub fn fold_laws()
 /// What a plan may do to a query: leave columns out, and ask conditions of one source's rows alone.
 pub fn plan_laws()
     ensures { PlanLaws }
+{}
+
+/// No two rows of a loaded table have an equal value in the column of its key.
+pub fn loaded_key()
+    ensures { LoadedKey }
 {}
