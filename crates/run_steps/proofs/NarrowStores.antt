@@ -1,10 +1,10 @@
 -- A database keeps every column in 64 bits a slot, and its look-ups find such columns.
 use Rattle.std.proofs.Common.{◌≡◌, ℕ, ◌+◌, Bool, true, false, List, [], ◌∷◌, refl, ap, sym, ◌∙◌}
-use Rattle.std.specs.Prelude.{ℤ, Option, Some, None, unwrap_or, if◌then◌else◌}
+use Rattle.std.specs.Prelude.{Option, Some, None, unwrap_or, if◌then◌else◌}
 use Rattle.std.specs.Option.{option_map, option_copied}
 use Rattle.std.specs.Borrow.{Bor}
 use Rattle.std.specs.Map.{lookup}
-use Rattle.control_vectors.specs.Slots.{Slot, numbers}
+use Rattle.control_vectors.specs.Slots.{Slot}
 use Rattle.programs.specs.Vectors.{seen_attributes}
 use Rattle.std.specs.declared.cmp.Ordering.{Ordering}
 use Rattle.std.specs.declared.cmp.Ordering.TheVariants.{Less, Equal, Greater}
@@ -14,7 +14,7 @@ use Rattle.sql_read.specs.declared.definition.ColumnDef.{ColumnDef}
 use Rattle.sql_read.specs.declared.definition.TableDef.{TableDef}
 use Rattle.sql_values.specs.Texts.{by_bytes}
 use Rattle.sql_values.specs.Values.{Value}
-use Rattle.struct_vectors.specs.Columns.{ColumnValue, narrow, some_slots}
+use Rattle.struct_vectors.specs.Columns.{ColumnValue, IsNarrow, listed_form}
 use Rattle.struct_vectors.specs.Vectors.{VectorValue}
 use Rattle.table_load.specs.Values.{Table}
 use Rattle.table_load.specs.Databases.{attributes_from, store_of, database_of, tables_texts}
@@ -23,12 +23,12 @@ use Rattle.run_steps.specs.Narrow.{AreNarrow, IsNarrowStore, IsNarrowIfAny, slot
 abbrev Attribute : Type 0
 Attribute = List ℕ × ColumnValue
 
-narrow-placed : (o : Ordering) (a b : Attribute) (rest later : List Attribute) → a.1.form ≡ narrow → AreNarrow (b ∷ rest) → AreNarrow later → AreNarrow (placed o a b rest later)
+narrow-placed : (o : Ordering) (a b : Attribute) (rest later : List Attribute) → IsNarrow a.1.form → AreNarrow (b ∷ rest) → AreNarrow later → AreNarrow (placed o a b rest later)
 narrow-placed Less a b rest later h hs hl = (h, hs)
 narrow-placed Equal a b rest later h hs hl = hs
 narrow-placed Greater a b rest later h hs hl = (hs.0, hl)
 
-narrow-with_item : (cmp : Attribute → Attribute → Ordering) (a : Attribute) (attributes : List Attribute) → a.1.form ≡ narrow → AreNarrow attributes → AreNarrow (with_item cmp a attributes)
+narrow-with_item : (cmp : Attribute → Attribute → Ordering) (a : Attribute) (attributes : List Attribute) → IsNarrow a.1.form → AreNarrow attributes → AreNarrow (with_item cmp a attributes)
 narrow-with_item cmp a [] h hs = (h, hs)
 narrow-with_item cmp a (b ∷ rest) h hs = narrow-placed (cmp a b) a b rest (with_item cmp a rest) h hs (narrow-with_item cmp a rest h hs.1)
 
@@ -40,9 +40,14 @@ narrow-ascending : (cmp : Attribute → Attribute → Ordering) (attributes : Li
 unfolding ascending
 narrow-ascending cmp attributes hs = narrow-ascending_from cmp [] attributes tt hs
 
+-- slots that are kept one by one in 64 bits, be some empty or not
+narrow-listed : (some_empty : Bool) → IsNarrow (listed_form false some_empty)
+narrow-listed true = tt
+narrow-listed false = tt
+
 narrow-attributes : (j : ℕ) (dictionary : List (List ℕ)) (rows : List (List Value)) (columns : List ColumnDef) → AreNarrow (attributes_from j dictionary rows columns)
 narrow-attributes j dictionary rows [] = tt
-narrow-attributes j dictionary rows (c ∷ columns) = (refl, narrow-attributes (j + 1) dictionary rows columns)
+narrow-attributes j dictionary rows (c ∷ columns) = (narrow-listed _, narrow-attributes (j + 1) dictionary rows columns)
 
 narrow-store : (dictionary : List (List ℕ)) (defs : List TableDef) (tables : List Table) → IsNarrowStore (store_of dictionary defs tables)
 narrow-store dictionary [] tables = tt
@@ -65,11 +70,11 @@ pub narrow_table : (t : List ℕ → Bool) (store : List (List ℕ × VectorValu
 narrow_table t [] v h e = cc
 narrow_table t (x ∷ store) v h e = narrow_if (t x.0) x.1 v (lookup t store) h.0 (narrow_table t store v h.1) e
 
-column_if : (b : Bool) (c d : ColumnValue) (o : Option ColumnValue) → c.form ≡ narrow → (o ≡ Some d → d.form ≡ narrow) → (if b then Some c else o) ≡ Some d → d.form ≡ narrow
+column_if : (b : Bool) (c d : ColumnValue) (o : Option ColumnValue) → IsNarrow c.form → (o ≡ Some d → IsNarrow d.form) → (if b then Some c else o) ≡ Some d → IsNarrow d.form
 column_if true c d o h hs e = rw (sym (some_same c d e)) h
 column_if false c d o h hs e = hs e
 
-narrow_look : (t : List ℕ → Bool) (attributes : List Attribute) (c : ColumnValue) → AreNarrow attributes → lookup t attributes ≡ Some c → c.form ≡ narrow
+narrow_look : (t : List ℕ → Bool) (attributes : List Attribute) (c : ColumnValue) → AreNarrow attributes → lookup t attributes ≡ Some c → IsNarrow c.form
 narrow_look t [] c h e = cc
 narrow_look t (a ∷ attributes) c h e = column_if (t a.0) a.1 c (lookup t attributes) h.0 (narrow_look t attributes c h.1) e
 
@@ -91,11 +96,3 @@ slots_copied (Some c) = refl
 
 pub slots_found : (t : List ℕ → Bool) (attributes : List Attribute) (c : Option (Bor ColumnValue)) → option_copied c ≡ lookup t attributes → slots_seen c ≡ unwrap_or (lookup t (seen_attributes attributes)) []
 slots_found t attributes c e = slots_copied c ∙ ap (λ o. unwrap_or (option_map (λ d. d.slots) o) []) e ∙ ap (λ o. unwrap_or o []) (sym (look_seen t attributes))
-
--- ---- numbers as slots, and back
-pub numbers-some_slots : (xs : List ℤ) → numbers (some_slots xs) ≡ xs
-numbers-some_slots [] = refl
-numbers-some_slots (x ∷ xs) = ap (λ l. x ∷ l) (numbers-some_slots xs)
-
-pub numbers_seen : (column : Option (Bor ColumnValue)) (c : Bor ColumnValue) (xs : List ℤ) → column ≡ Some c → c.now.slots ≡ some_slots xs → numbers (slots_seen column) ≡ xs
-numbers_seen column c xs is slots = ap (λ o. numbers (slots_seen o)) is ∙ ap numbers slots ∙ numbers-some_slots xs

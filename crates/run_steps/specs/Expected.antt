@@ -22,7 +22,8 @@ use Rattle.run_steps.specs.Steps.{request_in, catalog_in, tables_from, database_
 
 -- ---- the answer
 
--- two rows: the header, and the exact total, which is null where there is no row. At most 2^20 numbers of 64 bits stay within 128 bits
+-- two rows: the header, and the exact total of the numbers that are there, which is null where none is. At most 2^20 numbers of 64 bits stay
+-- within 128 bits
 abbrev pub sum_text : List ℕ → List Slot → List ℕ
 sum_text header slots = rows_text ((header ∷ []) ∷ (slot_field (total_slot (numbers slots)) ∷ []) ∷ [])
 

@@ -1,13 +1,13 @@
--- Stores whose columns are all kept in 64 bits a slot, without empties.
-use Rattle.std.specs.Prelude.{◌≡◌, ℕ, List, [], ◌∷◌, Option, Some, None}
+-- Stores whose columns are all kept in 64 bits a slot.
+use Rattle.std.specs.Prelude.{ℕ, List, [], ◌∷◌, Option, Some, None}
 use Rattle.std.specs.Borrow.{Bor}
 use Rattle.control_vectors.specs.Slots.{Slot}
-use Rattle.struct_vectors.specs.Columns.{ColumnValue, narrow}
+use Rattle.struct_vectors.specs.Columns.{ColumnValue, IsNarrow}
 use Rattle.struct_vectors.specs.Vectors.{VectorValue}
 
 abbrev pub AreNarrow : List (List ℕ × ColumnValue) → Type 0
 AreNarrow [] = Unit {0}
-AreNarrow (a ∷ attributes) = (a.1.form ≡ narrow) × AreNarrow attributes
+AreNarrow (a ∷ attributes) = IsNarrow a.1.form × AreNarrow attributes
 
 abbrev pub IsNarrowStore : List (List ℕ × VectorValue) → Type 0
 IsNarrowStore [] = Unit {0}
@@ -20,4 +20,4 @@ slots_seen (Some c) = c.now.slots
 
 abbrev pub IsNarrowIfAny : Option (Bor ColumnValue) → Type 0
 IsNarrowIfAny None = Unit {0}
-IsNarrowIfAny (Some c) = c.now.form ≡ narrow
+IsNarrowIfAny (Some c) = IsNarrow c.now.form

@@ -66,7 +66,6 @@ schema_kind_name catalog.KeyUnknown = codes "KeyUnknown"
 schema_kind_name catalog.BadWidth = codes "BadWidth"
 schema_kind_name catalog.TooManyTables = codes "TooManyTables"
 schema_kind_name catalog.TooManyColumns = codes "TooManyColumns"
-schema_kind_name catalog.NoNotNull = codes "NoNotNull"
 
 abbrev pub schema_cause_name : SchemaCause → List ℕ
 schema_cause_name (cause.Text kind) = sql_kind_name kind
@@ -86,6 +85,7 @@ type_kind_name typing.NotColumns = codes "NotColumns"
 type_kind_name typing.TooManyTables = codes "TooManyTables"
 type_kind_name typing.TooManyItems = codes "TooManyItems"
 type_kind_name typing.TooManyKeys = codes "TooManyKeys"
+type_kind_name typing.ScaleTooLarge = codes "ScaleTooLarge"
 
 abbrev pub query_cause_name : QueryCause → List ℕ
 query_cause_name (query_cause.Text kind) = sql_kind_name kind
@@ -122,6 +122,8 @@ data_kind_name loading.IntegerRange = codes "IntegerRange"
 data_kind_name loading.NotDate = codes "NotDate"
 data_kind_name loading.NotText = codes "NotText"
 data_kind_name loading.TextTooLong = codes "TextTooLong"
+data_kind_name loading.NotDecimal = codes "NotDecimal"
+data_kind_name loading.DecimalRange = codes "DecimalRange"
 data_kind_name (loading.KeyTwice earlier) = codes "KeyTwice "
 
 -- a key that stands twice is followed by the earlier record's number

@@ -184,6 +184,8 @@ fn data_kind_name(kind: DataKind) -> &'static str
         DataKind::NotDate => "NotDate",
         DataKind::NotText => "NotText",
         DataKind::TextTooLong => "TextTooLong",
+        DataKind::NotDecimal => "NotDecimal",
+        DataKind::DecimalRange => "DecimalRange",
         DataKind::KeyTwice(_) => "KeyTwice ",
     }
 }
@@ -245,6 +247,7 @@ fn type_kind_name(kind: TypeKind) -> &'static str
         TypeKind::TooManyTables => "TooManyTables",
         TypeKind::TooManyItems => "TooManyItems",
         TypeKind::TooManyKeys => "TooManyKeys",
+        TypeKind::ScaleTooLarge => "ScaleTooLarge",
     }
 }
 
@@ -301,6 +304,5 @@ fn schema_kind_name(kind: SchemaKind) -> &'static str
         SchemaKind::BadWidth => "BadWidth",
         SchemaKind::TooManyTables => "TooManyTables",
         SchemaKind::TooManyColumns => "TooManyColumns",
-        SchemaKind::NoNotNull => "NoNotNull",
     }
 }

@@ -171,7 +171,7 @@ fn kept_column<'a>(
     Ok(v.column_at(path.as_str()))
 }
 
-/// The rows of a sum: the header, and the exact total, each on a line.
+/// The rows of a sum: the header, and the exact total of the numbers that are there, each on a line.
 fn sum_text(alloc: Global, header: &str, column: Option<&Column>) -> Result<Vec<u8>, NoMemory>
     requires narrow { IsNarrowIfAny column }
     ensures { IfOk result (λ text. text.items ≡ expected.sum_text header.now (slots_seen column.entry)) }
@@ -194,7 +194,7 @@ fn push_row(alloc: Global, text: RowText, field: &[u8]) -> Result<RowText, NoMem
     text.push(&row)
 }
 
-/// The exact total of a column, empty where it has no numbers.
+/// The exact total of the numbers of a column, empty where it has none.
 fn total_of(alloc: Global, column: Option<&Column>) -> Result<Slot, NoMemory>
     requires narrow { IsNarrowIfAny column }
     ensures { IfOk result (λ total. total ≡ total_slot (numbers (slots_seen column.entry))) }
@@ -202,10 +202,7 @@ fn total_of(alloc: Global, column: Option<&Column>) -> Result<Slot, NoMemory>
     let Some(column) = column else {
         return Ok(None);
     };
-    let Some(numbers) = column.narrow_slice() else {
-        unreachable!()
-    };
-    match column_total(alloc, numbers) {
+    match column_total(alloc, column) {
         Ok(total) => Ok(total),
         Err(RunRefusal::NoMemory) => Err(AllocError),
         Err(RunRefusal::Overflow) => unreachable!(),
