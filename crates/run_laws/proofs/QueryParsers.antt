@@ -17,7 +17,7 @@ use Rattle.query_trees.specs.declared.query.Query.{Query}
 use Rattle.query_read.specs.Asked.{Asked}
 use Rattle.query_read.specs.Classes.{multiplies, ranges, joins}
 use Rattle.query_read.specs.Days.{no_date, no_span, leaves}
-use Rattle.query_read.specs.Nodes.{signs, steps, compares, aggregates, of}
+use Rattle.query_read.specs.Nodes.{signs, steps, compares, numerals, aggregates, of}
 use Rattle.query_read.specs.ExpressionParsers as e
 use Rattle.query_read.specs.ExpressionParsers.{Parser, Under}
 use Rattle.query_read.specs.ClauseParsers as c
@@ -71,14 +71,15 @@ date m text = parses_then (word k.Date) (λ t. parses_then (date_text m text) (�
 
 record Opens (u : Under) : Type 0 where
   parens : Parses u.parens
-  star : Parses u.star
+  counted : Parses u.counted
   list : Parses u.list
+  choices : Parses u.choices
   nots : Parses u.nots
   signed : Parses u.signed
 
 number : Parses e.number
 unfolding e.number
-number = parses_then (word k.Digits) (λ t. parses_pure _)
+number = parses_then (one_of numerals) (λ t. parses_pure _)
 
 literal : (text : Bytes) → Parses (e.literal text)
 unfolding e.literal
@@ -88,13 +89,17 @@ reference : (text : Bytes) → Parses (e.reference text)
 unfolding e.reference
 reference text = parses_then (column text) (λ c. parses_pure _)
 
-count : (stars : Parser Token) → Parses stars → Parses (e.count stars)
+count : (u : Under) → Opens u → Parses (e.count u)
 unfolding e.count
-count stars h = parses_then (word k.Count) (λ t. parses_then h (λ _. parses_pure _))
+count u h = parses_then (word k.Count) (λ t. parses_then h.counted (λ x. parses_pure _))
 
 aggregate : (u : Under) → Opens u → Parses (e.aggregate u)
 unfolding e.aggregate
 aggregate u h = parses_then (one_of aggregates) (λ t. parses_then h.parens (λ x. parses_pure _))
+
+coalesce : (u : Under) → Opens u → Parses (e.coalesce u)
+unfolding e.coalesce
+coalesce u h = parses_then (word k.Coalesce) (λ t. parses_then h.choices (λ x. parses_pure _))
 
 enclosed : (u : Under) → Opens u → Parses (e.enclosed u)
 unfolding e.enclosed
@@ -103,6 +108,14 @@ enclosed u h = parses_then h.parens (λ x. parses_pure _)
 divisor : Parses e.divisor
 unfolding e.divisor
 divisor = parses_either (of signs) (parses_then (one_of signs) (λ s. parses_then (word k.Digits) (λ n. parses_pure _))) (parses_then (word k.Digits) (λ n. parses_pure _))
+
+polarity : Parses e.polarity
+unfolding e.polarity
+polarity = parses_either (is k.Not) (parses_then (word k.Not) (λ _. parses_pure _)) (parses_pure _)
+
+nullity : (a : Expr) → Parses (e.nullity a)
+unfolding e.nullity
+nullity a = parses_then (word k.Is) (λ t. parses_then polarity (λ p. parses_then (word k.Null) (λ _. parses_pure _)))
 
 over : (a : Expr) → Parses (e.over a)
 unfolding e.over
@@ -116,13 +129,14 @@ module _ (m : Asked) (text : Bytes) (u : Under) (h : Opens u) where
   atom : Parses (e.atom m text u)
   unfolding e.atom
   atom =
-      parses_either (is k.Digits) number
+      parses_either (of numerals) number
       (parses_either (is k.Quoted) (literal text)
       (parses_either (is k.Date) (date m text)
       (parses_either (is k.Name) (reference text)
-      (parses_either (is k.Count) (count u.star h.star)
+      (parses_either (is k.Count) (count u h)
       (parses_either (of aggregates) (aggregate u h)
-      (enclosed u h))))))
+      (parses_either (is k.Coalesce) (coalesce u h)
+      (enclosed u h)))))))
 
   factor : Parses (e.factor m text u)
   unfolding e.factor
@@ -166,7 +180,7 @@ module _ (m : Asked) (text : Bytes) (u : Under) (h : Opens u) where
 
   predicate_tail : (a : Expr) → Parses (e.predicate_tail m text u a)
   unfolding e.predicate_tail
-  predicate_tail a = parses_either (of compares) (compared a) (parses_either (is k.Not) (negated a) (parses_either (of ranges) (ranged Plain a) (parses_pure a)))
+  predicate_tail a = parses_either (of compares) (compared a) (parses_either (is k.Not) (negated a) (parses_either (of ranges) (ranged Plain a) (parses_either (is k.Is) (nullity a) (parses_pure a))))
 
   neg : Parses (e.neg m text u)
   unfolding e.neg e.pred
@@ -184,6 +198,22 @@ module _ (m : Asked) (text : Bytes) (u : Under) (h : Opens u) where
   unfolding e.parens
   parens = parses_then (word k.OpenParen) (λ t. parses_then expr (λ a. parses_then (word k.CloseParen) (λ _. parses_pure _)))
 
+  star_or_expr : Parses (e.star_or_expr m text u)
+  unfolding e.star_or_expr
+  star_or_expr = parses_either (is k.Star) (parses_then (word k.Star) (λ _. parses_pure None)) (parses_then expr (λ a. parses_pure _))
+
+  counted : Parses (e.counted m text u)
+  unfolding e.counted
+  counted = parses_then (word k.OpenParen) (λ _. parses_then star_or_expr (λ x. parses_then (word k.CloseParen) (λ _. parses_pure x)))
+
+  alternatives : Parses (e.alternatives m text u)
+  unfolding e.alternatives
+  alternatives = parses_then expr (λ a. parses_then (word k.Comma) (λ _. parses_then (series (e.expr m text u) expr) (λ xs. parses_pure _)))
+
+  choices : Parses (e.choices m text u)
+  unfolding e.choices
+  choices = parses_then (word k.OpenParen) (λ _. parses_then alternatives (λ x. parses_then (word k.CloseParen) (λ _. parses_pure x)))
+
   listed : Parses (e.listed m text u)
   unfolding e.listed
   listed = parses_then (word k.OpenParen) (λ _. parses_then (series (e.sum m text u) sum) (λ xs. parses_then (word k.CloseParen) (λ _. parses_pure _)))
@@ -196,31 +226,30 @@ module _ (m : Asked) (text : Bytes) (u : Under) (h : Opens u) where
   unfolding e.signed
   signed = parses_then (one_of signs) (λ s. parses_then atom (λ a. parses_pure _))
 
-star : Parses e.star
-unfolding e.star
-star = parses_then (word k.OpenParen) (λ _. parses_then (word k.Star) (λ s. parses_then (word k.CloseParen) (λ _. parses_pure s)))
-
 opening : {A : Type 0} {q : Parser A} → Parses q → Parses (e.opening q)
 opening h = parses_either (is k.OpenParen) h (parses_refuse Unexpected)
-
-stars : (n : ℕ) → Parses (e.stars n)
-unfolding e.stars
-stars zero = opening (parses_refuse TooDeep)
-stars (suc n) = opening star
 
 under : (m : Asked) (text : Bytes) (n : ℕ) → Opens (e.under m text n)
 unfolding e.under
 under m text zero = record {
   parens = opening (parses_refuse TooDeep);
-  star = stars zero;
+  counted = opening (parses_refuse TooDeep);
   list = opening (parses_refuse TooDeep);
+  choices = opening (parses_refuse TooDeep);
   nots = parses_refuse TooDeep;
   signed = parses_refuse TooDeep;
 }
 under m text (suc n) =
     let u = e.under m text n in
     let h = under m text n in
-    record { parens = opening (parens m text u h); star = stars (suc n); list = opening (listed m text u h); nots = nots m text u h; signed = signed m text u h }
+    record {
+      parens = opening (parens m text u h);
+      counted = opening (counted m text u h);
+      list = opening (listed m text u h);
+      choices = opening (choices m text u h);
+      nots = nots m text u h;
+      signed = signed m text u h;
+    }
 
 -- ---- clauses
 

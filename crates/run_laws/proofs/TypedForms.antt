@@ -8,11 +8,11 @@ use Rattle.query_trees.specs.declared.expr.Sign.{Sign}
 use Rattle.query_trees.specs.declared.expr.ColumnName.{ColumnName}
 use Rattle.query_trees.specs.declared.expr.Expr.{Expr, Expr-F, roll-Expr, map-Expr, fold-roll-Expr, ind-Expr}
 use Rattle.query_trees.specs.declared.expr.Form.{Form, Form-F, roll-Form, map-Form, fold-roll-Form}
-use Rattle.query_types.specs.declared.refusal.TypeKind.TheVariants.{UnknownTable, UnknownColumn, Ambiguous, NotGrouped, TypesDiffer, NestedAggregate, ZeroDivisor}
-use Rattle.query_types.specs.declared.kinds.Kind.{Kind}
-use Rattle.query_types.specs.declared.kinds.Kind.TheVariants.{Number, Date, Text}
-use Rattle.query_types.specs.declared.kinds.Role.{Role}
-use Rattle.query_types.specs.declared.kinds.Role.TheVariants.{Side, Alone}
+use Rattle.query_types.specs.declared.refusal.TypeKind.TheVariants.{UnknownTable, UnknownColumn, Ambiguous, NotGrouped, TypesDiffer, NestedAggregate, ZeroDivisor, ScaleTooLarge}
+use Rattle.typed_trees.specs.declared.kinds.Kind.{Kind}
+use Rattle.typed_trees.specs.declared.kinds.Kind.TheVariants.{Number, Date, Text}
+use Rattle.typed_trees.specs.declared.kinds.Role.{Role}
+use Rattle.typed_trees.specs.declared.kinds.Role.TheVariants.{Side, Alone}
 use Rattle.query_types.specs.declared.scope.Called.{Called}
 use Rattle.query_types.specs.declared.scope.Found.{Found}
 use Rattle.query_types.specs.declared.scope.Level.{Level}
@@ -22,7 +22,7 @@ use Rattle.typed_trees.specs.declared.typed.TypedExpr.TheVariants as e
 use Rattle.query_types.specs.declared.typing.Typed.{Typed}
 use Rattle.std.specs.Prelude.{Option}
 use Rattle.std.specs.Str.{bytes_eq}
-use Rattle.query_types.specs.Kinds.{family_of, role_in}
+use Rattle.typed_trees.specs.Kinds.{family_of, role_in}
 use Rattle.query_types.specs.Names as n
 use Rattle.query_types.specs.Names.{Scope, inside}
 use Rattle.query_types.specs.Expressions as t
@@ -68,15 +68,15 @@ pub record Types (T : Typer) : Type 0 where
   pub types : (s : Scope) (role : Role) → Collects (T s role)
 
 literal : (role : Role) (text : List ℕ) (at : ℕ) → Answers (t.literal role text at)
-literal Side text at = answers_value (typed_as Text (e.Text text))
+literal Side text at = answers_value (typed_as Text 0 (e.Text text))
 literal Alone text at = answers_none TypesDiffer at
 
 named : (s : Scope) (c : ColumnName) → Answers (t.named s c)
 unfolding t.named
 named s c = answers_then (n.column s c) (column s c) (λ f. answers_value _)
 
-met : (kind : Kind) (a : Aggregate) (before : List Aggregate) → Answers (t.met kind a before)
-met kind a before = answers_value (typed_as kind (e.Aggregate (length before)), before ++ a ∷ [])
+met : (kind : Kind) (scale : ℕ) (a : Aggregate) (before : List Aggregate) → Answers (t.met kind scale a before)
+met kind scale a before = answers_value (typed_as kind scale (e.Aggregate (length before) scale), before ++ a ∷ [])
 
 counted : (level : Level) (at : ℕ) → Collects (t.counted level at)
 unfolding t.counted
@@ -94,9 +94,9 @@ Elements = List ((x : Expr) × Types (typer x))
 abbrev pub exprs : Elements → List Expr
 exprs xs = map (λ x. x.0) xs
 
-collects_each : (xs : Elements) (s : Scope) (before : List Typed) → Collects (each s before (map typer (exprs xs)))
-collects_each [] s before = collects_pure before
-collects_each (x ∷ xs) s before = collects_then (x.1.types s Side) (λ a. collects_each xs s (before ++ a ∷ []))
+collects_each : (xs : Elements) (s : Scope) (role : Role) (before : List Typed) → Collects (each s role before (map typer (exprs xs)))
+collects_each [] s role before = collects_pure before
+collects_each (x ∷ xs) s role before = collects_then (x.1.types s role) (λ a. collects_each xs s role (before ++ a ∷ []))
 
 -- ---- an expression is its form at a byte, and a form is a layer over its operands
 
@@ -129,7 +129,7 @@ negated at a = answers_if _ TypesDiffer at (answers_value _)
 
 binary : (o : BinaryOp) (at : ℕ) (a b : Typed) → Answers (t.binary o at a b)
 unfolding t.binary
-binary o at a b = answers_if _ TypesDiffer at (answers_value _)
+binary o at a b = answers_if _ TypesDiffer at (answers_if _ ScaleTooLarge at (answers_value _))
 
 divided : (at : ℕ) (a : Typed) (d : Divisor) → Answers (t.divided at a d)
 unfolding t.divided
@@ -143,10 +143,18 @@ among : (p : Polarity) (at : ℕ) (a : Typed) (ts : List Typed) → Answers (t.a
 unfolding t.among
 among p at a ts = answers_if _ TypesDiffer at (answers_value _)
 
+null_test : (p : Polarity) (at : ℕ) (a : Typed) → Answers (t.null_test p at a)
+unfolding t.null_test
+null_test p at a = answers_if _ TypesDiffer at (answers_value _)
+
+choice : (at : ℕ) (a : Typed) (ts : List Typed) → Answers (t.choice at a ts)
+unfolding t.choice
+choice at a ts = answers_if _ TypesDiffer at (answers_value _)
+
 by_layer : (y : Layer) → FormIsTyped (roll-Form (opened y))
-by_layer (Form-F.Number n) = by_operands (Form-F.Number n) (λ at. record { types = λ s role. collects_pure (typed_as Number (e.Number n)) })
+by_layer (Form-F.Number n scale) = by_operands (Form-F.Number n scale) (λ at. record { types = λ s role. collects_pure (typed_as Number scale (e.Number n scale)) })
 by_layer (Form-F.Text text) = by_operands (Form-F.Text text) (λ at. record { types = λ s role. collects_lift (literal role text at) })
-by_layer (Form-F.Date day) = by_operands (Form-F.Date day) (λ at. record { types = λ s role. collects_pure (typed_as Date (e.Date day)) })
+by_layer (Form-F.Date day) = by_operands (Form-F.Date day) (λ at. record { types = λ s role. collects_pure (typed_as Date 0 (e.Date day)) })
 by_layer (Form-F.Column c) = by_operands (Form-F.Column c) (λ at. record { types = λ s role. collects_lift (named s c) })
 by_layer Form-F.CountAll = by_operands Form-F.CountAll (λ at. record { types = λ s role. counted s.level at })
 by_layer (Form-F.Aggregate of x) = by_operands (Form-F.Aggregate of x.0) (λ at. record { types = λ s role. collects_then (x.1.types (inside s) Alone) (folded s.level of at) })
@@ -161,7 +169,11 @@ by_layer (Form-F.Between p place x y z) = by_operands (Form-F.Between p place x.
   types = λ s role. collects_then (x.1.types s Side) (λ a. collects_then (y.1.types s Side) (λ low. collects_then (z.1.types s Side) (λ high. collects_lift (between p place a low high))));
 })
 by_layer (Form-F.In p place x ys) = by_operands (Form-F.In p place x.0 (exprs ys)) (λ at. record {
-  types = λ s role. collects_then (x.1.types s Side) (λ a. collects_then (collects_each ys s []) (λ ts. collects_lift (among p place a ts)));
+  types = λ s role. collects_then (x.1.types s Side) (λ a. collects_then (collects_each ys s Side []) (λ ts. collects_lift (among p place a ts)));
+})
+by_layer (Form-F.IsNull p place x) = by_operands (Form-F.IsNull p place x.0) (λ at. record { types = λ s role. collects_then (x.1.types s Alone) (λ a. collects_lift (null_test p place a)) })
+by_layer (Form-F.Coalesce x ys) = by_operands (Form-F.Coalesce x.0 (exprs ys)) (λ at. record {
+  types = λ s role. collects_then (x.1.types s Alone) (λ a. collects_then (collects_each ys s Alone []) (λ ts. collects_lift (choice at a ts)));
 })
 
 by_form : (y : Expr-F ((x : Form) × FormIsTyped x) ((x : Expr) × IsTyped x)) → IsTyped (roll-Expr (map-Expr ((x : Form) × FormIsTyped x) ((x : Expr) × IsTyped x) Form Expr (λ e. e.0) (λ e. e.0) y))

@@ -22,7 +22,7 @@ use Rattle.typed_trees.specs.declared.typed.ColumnRef.{ColumnRef}
 use Rattle.typed_trees.specs.declared.typed.KeyRef.TheVariants.{Item}
 use Rattle.typed_trees.specs.declared.typed.OrderKey.{OrderKey}
 use Rattle.query_types.specs.declared.refusal.TypeKind.TheVariants.{UnknownTable, UnknownColumn, Ambiguous, NameTwice, TypesDiffer, NotAKey, NotColumns, TooManyTables, TooManyItems, TooManyKeys}
-use Rattle.query_types.specs.declared.kinds.Role.TheVariants.{Alone}
+use Rattle.typed_trees.specs.declared.kinds.Role.TheVariants.{Alone}
 use Rattle.query_types.specs.declared.items.Shown.{Shown}
 use Rattle.query_types.specs.declared.scope.Called.{Called}
 use Rattle.query_types.specs.declared.scope.Found.{Found}
