@@ -1,7 +1,7 @@
 //! What became of a case.
 
 use crate::names::type_kind_name;
-use crate::queries::{show_clauses, show_sum, show_within};
+use crate::queries::{show_clauses, show_ends, show_sum, show_within};
 use case_names::sql_kind_name;
 use case_text::{after, before, show_count, spelled};
 use query_read::read_query;
@@ -21,6 +21,8 @@ enum Shown {
     Nothing,
     /// Whether the parts of its condition cannot leave 128 bits.
     Within,
+    /// The least and the greatest that its items can be.
+    Ends,
     /// The column whose sum it is.
     Sum,
 }
@@ -63,6 +65,7 @@ fn show_case(
         b"typed" => show_over(out, alloc, schema, Shown::Whole, text.as_slice()),
         b"types" => show_over(out, alloc, schema, Shown::Nothing, text.as_slice()),
         b"within" => show_condition(out, alloc, schema, text.as_slice()),
+        b"ends" => show_item(out, alloc, schema, text.as_slice()),
         b"sum" => show_over(out, alloc, schema, Shown::Sum, text.as_slice()),
         _ => out.push_str("    no case\n"),
     }
@@ -77,6 +80,18 @@ fn show_condition(
     let mut whole = Vec::from_slice(alloc, b"SELECT a FROM t WHERE ")?;
     whole.extend_from_slice(text)?;
     show_over(out, alloc, schema, Shown::Within, whole.as_slice())
+}
+
+fn show_item(
+    out: &mut String,
+    alloc: Global,
+    schema: &[u8],
+    text: &[u8],
+) -> Result<(), AllocError> {
+    let mut whole = Vec::from_slice(alloc, b"SELECT ")?;
+    whole.extend_from_slice(text)?;
+    whole.extend_from_slice(b" FROM t")?;
+    show_over(out, alloc, schema, Shown::Ends, whole.as_slice())
 }
 
 fn show_over(
@@ -134,6 +149,7 @@ fn show_query(out: &mut String, shown: Shown, q: &TypedQuery) -> Result<(), Allo
         Shown::Whole => show_clauses(out, q),
         Shown::Nothing => out.push_str("    typed\n"),
         Shown::Within => show_within(out, q),
+        Shown::Ends => show_ends(out, q),
         Shown::Sum => show_sum(out, q),
     }
 }

@@ -5,7 +5,7 @@ use case_text::{show_bytes, show_count, show_number};
 use query_trees::Sign;
 use sql_read::ColumnKind;
 use std::alloc::AllocError;
-use typed_trees::{ColumnRef, TypedExpr};
+use typed_trees::{ColumnRef, ColumnType, TypedExpr};
 
 /// The column as `source.column`.
 pub fn show_place(out: &mut String, c: ColumnRef) -> Result<(), AllocError> {
@@ -14,12 +14,43 @@ pub fn show_place(out: &mut String, c: ColumnRef) -> Result<(), AllocError> {
     show_count(out, c.column as u128)
 }
 
-fn show_column(out: &mut String, c: ColumnRef, kind: ColumnKind) -> Result<(), AllocError> {
+/// A size of a column's type behind a mark.
+fn show_size(out: &mut String, mark: &str, size: u32) -> Result<(), AllocError> {
+    out.push_str(mark)?;
+    show_count(out, size as u128)
+}
+
+fn show_type(out: &mut String, column: ColumnType) -> Result<(), AllocError> {
+    out.push_str(column_kind_name(column.kind))?;
+    match column.kind {
+        ColumnKind::Integer | ColumnKind::Date => Ok(()),
+        ColumnKind::Text => {
+            show_size(out, "(", column.width)?;
+            out.push(')')
+        }
+        ColumnKind::Decimal => {
+            show_size(out, "(", column.width)?;
+            show_size(out, ", ", column.scale)?;
+            out.push(')')
+        }
+    }
+}
+
+fn show_column(out: &mut String, c: ColumnRef, column: ColumnType) -> Result<(), AllocError> {
     out.push('[')?;
     show_place(out, c)?;
     out.push(' ')?;
-    out.push_str(column_kind_name(kind))?;
+    show_type(out, column)?;
     out.push(']')?;
+    Ok(())
+}
+
+/// The digits of a number, and behind them how many stand after the point: `15e-1`.
+fn show_scaled(out: &mut String, n: u128, scale: u32) -> Result<(), AllocError> {
+    show_count(out, n)?;
+    if scale > 0 {
+        show_size(out, "e-", scale)?;
+    }
     Ok(())
 }
 
@@ -37,9 +68,11 @@ fn show_date(out: &mut String, day: i32) -> Result<(), AllocError> {
     Ok(())
 }
 
-fn show_aggregate(out: &mut String, place: u32) -> Result<(), AllocError> {
-    out.push_str("(aggregate ")?;
-    show_count(out, place as u128)?;
+fn show_aggregate(out: &mut String, place: u32, scale: u32) -> Result<(), AllocError> {
+    show_size(out, "(aggregate ", place)?;
+    if scale > 0 {
+        show_size(out, " scale ", scale)?;
+    }
     out.push(')')?;
     Ok(())
 }
@@ -47,11 +80,11 @@ fn show_aggregate(out: &mut String, place: u32) -> Result<(), AllocError> {
 #[cycle(expressions)]
 pub fn show_expression(out: &mut String, e: &TypedExpr) -> Result<(), AllocError> {
     match e {
-        TypedExpr::Number(n) => show_count(out, *n),
+        TypedExpr::Number(n, scale) => show_scaled(out, *n, *scale),
         TypedExpr::Text(text) => show_text(out, text.text().as_bytes()),
         TypedExpr::Date(day) => show_date(out, *day),
-        TypedExpr::Column(c, kind) => show_column(out, *c, *kind),
-        TypedExpr::Aggregate(place) => show_aggregate(out, *place),
+        TypedExpr::Column(c, column) => show_column(out, *c, *column),
+        TypedExpr::Aggregate(place, scale) => show_aggregate(out, *place, *scale),
         _ => show_operation(out, e),
     }
 }
@@ -78,6 +111,14 @@ fn show_operation(out: &mut String, e: &TypedExpr) -> Result<(), AllocError> {
             out.push_str(polarity_name(*polarity))?;
             show_one(out, "IN", x.get())?;
             show_operands(out, among.as_slice())?;
+        }
+        TypedExpr::IsNull(polarity, x) => {
+            out.push_str(polarity_name(*polarity))?;
+            show_one(out, "IS NULL", x.get())?;
+        }
+        TypedExpr::Coalesce(x, others) => {
+            show_one(out, "COALESCE", x.get())?;
+            show_operands(out, others.as_slice())?;
         }
         _ => {}
     }

@@ -4,11 +4,13 @@
 //! - `typed TEXT`: a query as it is meant, a clause a line, or the byte and the kind of its first refusal;
 //! - `types TEXT`: that the query has types, or its first refusal;
 //! - `within TEXT`: of each part of the condition of `SELECT a FROM t WHERE TEXT` whether it cannot leave 128 bits;
+//! - `ends TEXT`: the least and the greatest that `TEXT` can be in `SELECT TEXT FROM t`, or that it has no such ends within 128 bits;
 //! - `sum TEXT`: the places of the table and the column whose sum a query is, and the name of the answer; or that it is none;
 //! - a line that is empty or begins with `#` is no case.
 //!
-//! Tables, sources, columns, aggregates and items count from 0. A column is `[source.column kind]`, and an aggregate in an expression
-//! `(aggregate place)`.
+//! Tables, sources, columns, aggregates and items count from 0. A column is `[source.column kind]`, with the width of a text, and the precision and
+//! the scale of a decimal. A number is `15`, or `15e-1` where one of its digits stands after a point, and an aggregate in an expression
+//! `(aggregate place)`, with its scale where that is not 0.
 #![tactic(auto)]
 
 mod answers;

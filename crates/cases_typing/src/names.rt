@@ -14,6 +14,7 @@ pub fn type_kind_name(kind: TypeKind) -> &'static str {
         TypeKind::NestedAggregate => "NestedAggregate",
         TypeKind::NotAKey => "NotAKey",
         TypeKind::ZeroDivisor => "ZeroDivisor",
+        TypeKind::ScaleTooLarge => "ScaleTooLarge",
         TypeKind::NotColumns => "NotColumns",
         TypeKind::TooManyTables => "TooManyTables",
         TypeKind::TooManyItems => "TooManyItems",

@@ -2,11 +2,11 @@
 
 use crate::clauses::{show_aggregate, show_groups, show_key, show_lines, show_source};
 use crate::expressions::show_expression;
-use case_text::show_count;
+use case_text::{show_count, show_number};
 use io_edge::Name;
 use std::alloc::AllocError;
 use typed_trees::{Aggregate, OrderKey, PlanSource, TypedExpr, TypedQuery};
-use typed_values::{cannot_overflow, sum_asked};
+use typed_values::{bounds, cannot_overflow, sum_asked};
 
 fn show_sources(out: &mut String, sources: &[PlanSource]) -> Result<(), AllocError> {
     for source in sources {
@@ -71,6 +71,28 @@ pub fn show_within(out: &mut String, q: &TypedQuery) -> Result<(), AllocError> {
         } else {
             "    may leave 128 bits\n"
         })?;
+    }
+    Ok(())
+}
+
+fn show_bounds(out: &mut String, e: &TypedExpr) -> Result<(), AllocError> {
+    match bounds(e) {
+        None => out.push_str("    no ends\n"),
+        Some(interval) => {
+            out.push_str("    from ")?;
+            show_number(out, interval.least)?;
+            out.push_str(" to ")?;
+            show_number(out, interval.greatest)?;
+            out.push('\n')?;
+            Ok(())
+        }
+    }
+}
+
+/// The least and the greatest that each item can be.
+pub fn show_ends(out: &mut String, q: &TypedQuery) -> Result<(), AllocError> {
+    for item in q.items.as_slice() {
+        show_bounds(out, item)?;
     }
     Ok(())
 }
