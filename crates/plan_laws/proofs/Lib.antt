@@ -1,0 +1,7 @@
+mod Kept
+mod NamedColumns
+mod Places
+mod Moves
+mod FittingRows
+mod Pushed
+mod Weights

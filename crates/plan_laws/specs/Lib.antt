@@ -1,0 +1,3 @@
+pub mod PlanAnswers
+pub mod Sizes
+pub mod Laws

@@ -1,0 +1,4 @@
+//! Plans keep the answers of their queries.
+#![tactic(auto)]
+
+pub mod laws;
