@@ -15,7 +15,7 @@ fn show_slot(out: &mut String, slot: Option<i128>) -> Result<(), AllocError> {
     }
 }
 
-/// The column as `(path slot slot ..)`, and a word where its slots are not kept in 64 bits, each with a number.
+/// The column as `(path slot slot ..)`, and a word where it is kept in another form than 64 bits a slot without empties.
 fn show_column(out: &mut String, path: &str, column: &Column) -> Result<(), AllocError> {
     out.push_str(" (")?;
     out.push_str(path)?;
@@ -23,7 +23,7 @@ fn show_column(out: &mut String, path: &str, column: &Column) -> Result<(), Allo
         show_slot(out, column.get(i))?;
     }
     if column.narrow_slice().is_none() {
-        out.push_str(" not-narrow")?;
+        out.push_str(" with-empties")?;
     }
     out.push(')')?;
     Ok(())

@@ -14,6 +14,8 @@ fn kind_name(kind: DataKind) -> &'static str {
         DataKind::NotDate => "NotDate",
         DataKind::NotText => "NotText",
         DataKind::TextTooLong => "TextTooLong",
+        DataKind::NotDecimal => "NotDecimal",
+        DataKind::DecimalRange => "DecimalRange",
         DataKind::KeyTwice(_) => "KeyTwice",
     }
 }
