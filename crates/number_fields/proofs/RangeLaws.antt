@@ -11,7 +11,7 @@ use Rattle.number_fields.specs.Ranges.{DecimalRange, IntegerRange, lies_between}
 use Rattle.number_fields.specs.declared.fault.NumberFault.{NumberFault}
 use Rattle.number_fields.proofs.DecimalLaws.{decimal_rule}
 
-both_hold : (x y : Bool) → T x → T y → (x && y) ≡ true
+pub both_hold : (x y : Bool) → T x → T y → (x && y) ≡ true
 both_hold true true h g = refl
 both_hold true false h g = absurd g
 both_hold false y h g = absurd h

@@ -8,6 +8,8 @@ pub mod ColumnLaws
 mod MarkLaws
 pub mod LoadLaws
 pub mod RuleLaws
+pub mod DayLaws
+pub mod TypeLaws
 pub mod DictionaryFacts
 pub mod VectorFacts
 pub mod StoreFacts

@@ -6,4 +6,5 @@ pub mod Databases
 pub mod HeldColumns
 pub mod Reading
 pub mod Vectors
+pub mod ColumnTypes
 pub mod Examples

@@ -1,5 +1,6 @@
 //! The laws of tables, each stated once, as a contract.
 
+ghost use Rattle.table_load.specs.ColumnTypes.{ColumnsFit};
 ghost use Rattle.table_load.specs.Examples.{WorkedColumns, WorkedFields, WorkedTables};
 ghost use Rattle.table_load.specs.Rules.{OneAnswer, TableRule};
 
@@ -8,6 +9,11 @@ ghost use Rattle.table_load.specs.Rules.{OneAnswer, TableRule};
 pub fn table_rule()
     ensures rule { TableRule }
     ensures one { OneAnswer }
+{}
+
+/// Each row of a table has a value for each column that the column's type allows, and a null only where the column may hold nulls.
+pub fn columns_fit()
+    ensures { ColumnsFit }
 {}
 
 /// What fields, records and rows give, worked out.
