@@ -1,2 +1,1 @@
--- The column may be null, which no table may today.
-CREATE TABLE t (a INTEGER);
+CREATE TABLE t (a INTEGER NOT NULL, a DATE NOT NULL);

@@ -1,0 +1,1 @@
+SELECT SUM(a) AS s FROM n
