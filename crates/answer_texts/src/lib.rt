@@ -1,0 +1,4 @@
+//! The text of a query's relational answer, and its laws.
+#![tactic(auto)]
+
+pub mod laws;
