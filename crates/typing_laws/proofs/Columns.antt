@@ -22,7 +22,7 @@ use Rattle.query_types.specs.Names.{Scope, columns_of, column_ref, type_of_colum
 use Rattle.query_types.proofs.OutcomeLaws.{ok_same, then_ok, not_refused}
 use Rattle.typed_trees.proofs.Inversions.{some_same}
 use Rattle.typing_laws.specs.Laws.{column_at}
-use Rattle.typing_laws.proofs.Lists.{Behind, behind_none, behind_first, behind_rest}
+use Rattle.typing_laws.proofs.Lists.{not_false, Behind, behind_none, behind_first, behind_rest}
 
 -- the places of the tables of FROM in the catalog
 abbrev pub places : List Called → List ℕ
@@ -124,15 +124,25 @@ pub resolved_found : (defs : List TableDef) (tables : List Called) (c : ColumnNa
 resolved_found defs tables c f e = named_found defs tables c.name f (resolved_named defs tables c f e)
 
 -- a column that may stand is the one that was found
-pub standing_same : (s : Scope) (at : ℕ) (f g : Found) → standing s at f ≡ Ok g → f ≡ g
+standing_same : (s : Scope) (at : ℕ) (f g : Found) → standing s at f ≡ Ok g → f ≡ g
 unfolding standing
 standing_same s at f g e = ok_same f g (not_refused (not (may_stand s.level s.groups f.column)) NotGrouped at (Ok f) g e).1
 
-pub column_is_found : (s : Scope) (c : ColumnName) (f : Found) → column s c ≡ Ok f → IsFound s.defs s.tables f
+-- a column of the scope: on a group, one of its columns
+pub record IsStanding (s : Scope) (x : ColumnRef × ColumnType) : Type 0 where
+  pub declared : column_at s.defs (places s.tables) x.0 ≡ Some x.1
+  pub may : may_stand s.level s.groups x.0 ≡ true
+
+-- a column that was found, and then may stand
+pub found_stands : (s : Scope) (at : ℕ) (f g : Found) → IsFound s.defs s.tables f → standing s at f ≡ Ok g → IsStanding s (f.column, f.type_)
+unfolding standing
+found_stands s at f g h e = record { declared = h; may = not_false (may_stand s.level s.groups f.column) (not_refused (not (may_stand s.level s.groups f.column)) NotGrouped at (Ok f) g e).0 }
+
+pub column_stands : (s : Scope) (c : ColumnName) (f : Found) → column s c ≡ Ok f → IsStanding s (f.column, f.type_)
 unfolding column
-column_is_found s c f e =
+column_stands s c f e =
     let x = then_ok (resolved s.defs s.tables c) (standing s c.at) f e in
-    subst (λ (g : Found). IsFound s.defs s.tables g) (standing_same s c.at x.0 f x.2) (resolved_found s.defs s.tables c x.0 x.1)
+    subst (λ (g : Found). IsStanding s (g.column, g.type_)) (standing_same s c.at x.0 f x.2) (found_stands s c.at x.0 f (resolved_found s.defs s.tables c x.0 x.1) x.2)
 
 -- ---- `*`
 

@@ -41,7 +41,7 @@ use Rattle.query_types.specs.Expressions as t
 use Rattle.query_types.specs.Expressions.{is_row, values, scales}
 use Rattle.query_types.proofs.OutcomeLaws.{ok_same, then_ok, not_refused}
 use Rattle.typing_laws.specs.Laws.{IsDeclared}
-use Rattle.typing_laws.proofs.Columns.{places, column_is_found}
+use Rattle.typing_laws.proofs.Columns.{places, IsStanding, column_stands}
 use Rattle.typing_laws.proofs.Grown.{IsGood, Grown, grown_met, Sees, types_last, Good, from_same}
 use Rattle.typing_laws.proofs.Lists.{not_false, passes, both_pass}
 
@@ -58,7 +58,10 @@ and_both true c e f = f
 and_both false c e f = absurd (cc)
 
 abbrev Declared : Scope → ColumnRef × ColumnType → Type 0
-Declared s = IsDeclared s.defs (places s.tables)
+Declared s = IsStanding s
+
+abbrev Known : Scope → ColumnRef × ColumnType → Type 0
+Known s = IsDeclared s.defs (places s.tables)
 
 is_number_kind : (k : Kind) → is_number k ≡ true → k ≡ Number
 is_number_kind Number e = refl
@@ -108,14 +111,14 @@ unfolding t.named
 column_good s role l c x is =
     let y = then_ok (column s c) t.column_typed x is in
     let f : Found = y.0 in
-    subst (λ y. Good s role l y) (ok_same (column_of f.column f.type_) x y.2) (found_good s role l f.column f.type_ (column_is_found s c f y.1))
+    subst (λ y. Good s role l y) (ok_same (column_of f.column f.type_) x y.2) (found_good s role l f.column f.type_ (column_stands s c f y.1))
 
 -- ---- aggregates
 
 -- an aggregate that is met, on a group
-met_good : (s : Scope) (role : Role) (l m : List Aggregate) (kind : Kind) (scale : ℕ) (a : Aggregate) (x : Typed) → is_row s.level ≡ false → aggregate_type a ≡ Some (typed_as kind scale) → IsGood s.defs s.tables a → t.met kind scale a l ≡ Ok (x, m) → Grown s.defs s.tables l m × Good s role m x
+met_good : (s : Scope) (role : Role) (l m : List Aggregate) (kind : Kind) (scale : ℕ) (a : Aggregate) (x : Typed) → is_row s.level ≡ false → aggregate_type a ≡ Some (typed_as kind scale) → IsGood s.defs s.tables a → t.met kind scale a l ≡ Ok (x, m) → Grown s l m × Good s role m x
 met_good s role l m kind scale a x group is h same =
-    from_same s.defs s.tables (Good s role) l (l ++ a ∷ []) m (t.typed_as kind scale (e.Aggregate (length l) scale)) x (grown_met s.defs s.tables l a h) record {
+    from_same s (Good s role) l (l ++ a ∷ []) m (t.typed_as kind scale (e.Aggregate (length l) scale)) x (grown_met s l a group h) record {
       type = λ at sees.
           let seen : Sees false (l ++ a ∷ []) at = subst (λ b. Sees b (l ++ a ∷ []) at) group sees in
           let stands_at : at (length l) ≡ Some (typed_as kind scale) = seen (length l) (typed_as kind scale) (types_last l a ∙ is) in
@@ -126,7 +129,7 @@ met_good s role l m kind scale a x group is h same =
       columns = All-same (Declared s) (columns_in (e.Aggregate (length l) scale)) [] (columns_Aggregate (length l) scale) (All-nil (Declared s));
     } same
 
-pub counted_good : (s : Scope) (role : Role) (l m : List Aggregate) (at : ℕ) (x : Typed) → t.counted s.level at l ≡ Ok (x, m) → Grown s.defs s.tables l m × Good s role m x
+pub counted_good : (s : Scope) (role : Role) (l m : List Aggregate) (at : ℕ) (x : Typed) → t.counted s.level at l ≡ Ok (x, m) → Grown s l m × Good s role m x
 unfolding t.counted
 counted_good s role l m at x same =
     let a : Aggregate = record { kind = Count; argument = None } in
@@ -141,7 +144,7 @@ folded_type_is written.Min k s h = passes (not (is_truth k)) (typed_as k s) h
 folded_type_is written.Max k s h = passes (not (is_truth k)) (typed_as k s) h
 
 -- its argument is typed on rows
-pub folded_good : (s : Scope) (role : Role) (l m : List Aggregate) (of : Written) (at : ℕ) (a x : Typed) → type_of no_aggregate a.value ≡ Some (typed_as a.kind a.scale) → stands a.value Alone ≡ true → All (Declared s) (columns_in a.value) → t.folded s.level of at a l ≡ Ok (x, m) → Grown s.defs s.tables l m × Good s role m x
+pub folded_good : (s : Scope) (role : Role) (l m : List Aggregate) (of : Written) (at : ℕ) (a x : Typed) → type_of no_aggregate a.value ≡ Some (typed_as a.kind a.scale) → stands a.value Alone ≡ true → All (Known s) (columns_in a.value) → t.folded s.level of at a l ≡ Ok (x, m) → Grown s l m × Good s role m x
 unfolding t.folded
 folded_good s role l m of at a x typed sides columns same =
     let g : Aggregate = record { kind = t.aggregate_kind of; argument = Some a.value } in
@@ -150,7 +153,7 @@ folded_good s role l m of at a x typed sides columns same =
     let type : aggregate_type g ≡ Some (typed_as (t.kind_folded of a.kind) (t.scale_folded of a.scale)) = ap (λ o. with_type o (folded_type (t.aggregate_kind of))) typed ∙ folded_type_is of a.kind a.scale (not_false (folds of a.kind) y.0) in
     met_good s role l m (t.kind_folded of a.kind) (t.scale_folded of a.scale) g x z.0 type record {
       is = record { type = ap is_some type; sides = λ b same. subst (λ c. stands c Alone ≡ true) (some_same a.value b same) sides };
-      declared = λ b same. subst (λ c. All (Declared s) (columns_in c)) (some_same a.value b same) columns;
+      declared = λ b same. subst (λ c. All (Known s) (columns_in c)) (some_same a.value b same) columns;
     } z.1
 
 -- ---- operators

@@ -1,5 +1,5 @@
 -- The group columns and the keys of ORDER BY are columns of FROM, or items.
-use Rattle.std.proofs.Common.{◌≡◌, ℕ, suc, ◌+◌, ◌-◌, ◌<◌, nat_le, nat_lt, ◌&&◌, Bool, true, false, not, List, [], ◌∷◌, ◌++◌, length, Option, Some, None, Ok, is_some, if◌then◌else◌, ap, subst, arith}
+use Rattle.std.proofs.Common.{◌≡◌, ℕ, suc, ◌+◌, ◌-◌, ◌<◌, nat_le, nat_lt, ◌&&◌, Bool, true, false, not, List, [], ◌∷◌, ◌++◌, length, Option, Some, None, Ok, is_some, if◌then◌else◌, ◌||◌, sym, ap, subst, arith}
 use Rattle.std.specs.Prelude.{All}
 use Rattle.std.specs.List.{list_all}
 use Rattle.std.specs.Str.{bytes_eq}
@@ -23,12 +23,12 @@ use Rattle.query_types.specs.declared.scope.Called.{Called}
 use Rattle.query_types.specs.declared.scope.Found.{Found}
 use Rattle.query_types.specs.declared.stars.Starred.{Starred}
 use Rattle.query_types.specs.Expressions.{column_alone}
-use Rattle.query_types.specs.Grouping.{every_column, grouped_by, is_column_item, column_of_item, selected, columns_starred, distinct, is_written, groups_by, groups_of}
-use Rattle.query_types.specs.Names.{Scope, resolved, column}
+use Rattle.query_types.specs.Grouping.{every_column, grouped_by, is_column_item, column_of_item, selected, columns_starred, distinct, is_written, groups_by, groups_of, aggregates, is_grouped}
+use Rattle.query_types.specs.Names.{Scope, may_stand, resolved, column}
 use Rattle.query_types.specs.Ordering.{places_named, by_place, by_column, by_item, by_bare, by_name, key_ref, order_key, keys}
 use Rattle.query_types.proofs.OutcomeLaws.{ok_same, then_ok, not_refused}
 use Rattle.typing_laws.specs.Laws.{IsColumn, IsKey}
-use Rattle.typing_laws.proofs.Columns.{places, IsFound, IsStarred, resolved_found, column_is_found, starred_found}
+use Rattle.typing_laws.proofs.Columns.{places, IsFound, IsStarred, resolved_found, column_stands, starred_found}
 use Rattle.typing_laws.proofs.Lists.{not_false}
 
 is_column : (defs : List TableDef) (tables : List Called) (f : Found) → IsFound defs tables f → IsColumn defs (places tables) f.column
@@ -80,6 +80,16 @@ module _ (defs : List TableDef) (tables : List Called) where
   unfolding groups_of
   group_columns q cs is = by_columns q.groups q.list q.distinct cs is
 
+-- without GROUP BY and DISTINCT there are none
+pub no_groups : (defs : List TableDef) (tables : List Called) (q : Query) (cs : List ColumnRef) → is_grouped q ≡ false → groups_of defs tables q ≡ Ok cs → cs ≡ []
+unfolding groups_of is_grouped
+no_groups defs tables q cs e is = by q.groups q.distinct e is
+  where
+    by : (columns : List ColumnName) (o : Option ℕ) → (is_written columns || (is_some o || aggregates q.list)) ≡ false → groups_by defs tables columns q.list o ≡ Ok cs → cs ≡ []
+    by [] None e is = sym (ok_same [] cs is)
+    by [] (Some at) e is = absurd (cc)
+    by (c ∷ more) o e is = absurd (cc)
+
 -- ---- ORDER BY
 
 named_within : (name : List ℕ) (k : ℕ) (ns : List (List ℕ)) → All (λ i. i < k + length ns) (places_named name k ns)
@@ -93,14 +103,20 @@ named_within name k (n ∷ ns) =
     by_match false h = h
 
 module _ (s : Scope) where
-  abbrev Key : ℕ → KeyRef → Type 0
-  Key n k = IsKey s.defs (places s.tables) n k
+  abbrev pub IsStandingKey : KeyRef → Type 0
+  IsStandingKey (Item k) = Unit {0}
+  IsStandingKey (Column c) = may_stand s.level s.groups c ≡ true
+
+  -- an item, or a column that may stand
+  pub record Key (n : ℕ) (k : KeyRef) : Type 0 where
+    pub is : IsKey s.defs (places s.tables) n k
+    pub may : IsStandingKey k
 
   placed : (at n p : ℕ) (k : KeyRef) → by_place at n p ≡ Ok k → Key n k
   placed at n p k is =
       let y = not_refused (not (nat_lt 0 p && nat_le p n)) UnknownColumn at (Ok (Item (p - 1))) k is in
       let within : p - 1 < n = inside p n (not_false (nat_lt 0 p && nat_le p n) y.0) in
-      subst (λ z. Key n z) (ok_same (Item (p - 1)) k y.1) within
+      subst (λ z. Key n z) (ok_same (Item (p - 1)) k y.1) (record { is = within; may = tt })
     where
       inside : (p n : ℕ) → (nat_lt 0 p && nat_le p n) ≡ true → p - 1 < n
       inside p n h = grind (arith, nat_tests)
@@ -109,11 +125,11 @@ module _ (s : Scope) where
   unfolding by_column
   of_column n c k is =
       let y = then_ok (column s c) (λ f. Ok (Column f.column)) k is in
-      subst (λ z. Key n z) (ok_same (Column y.0.column) k y.2) (is_column s.defs s.tables y.0 (column_is_found s c y.0 y.1))
+      subst (λ z. Key n z) (ok_same (Column y.0.column) k y.2) (let h = column_stands s c y.0 y.1 in record { is = ap is_some h.declared; may = h.may })
 
   of_item : (n : ℕ) (c : ColumnName) (ks : List ℕ) (k : KeyRef) → All (λ i. i < n) ks → by_item s c ks ≡ Ok k → Key n k
   of_item n c [] k h is = of_column n c k is
-  of_item n c (i ∷ []) k h is = subst (λ z. Key n z) (ok_same (Item i) k is) (All-head (λ i. i < n) i [] h)
+  of_item n c (i ∷ []) k h is = subst (λ z. Key n z) (ok_same (Item i) k is) (record { is = All-head (λ i. i < n) i [] h; may = tt })
   of_item n c (i ∷ j ∷ more) k h is = absurd (cc)
 
   bare_key : (names : List (List ℕ)) (c : ColumnName) (k : KeyRef) → by_bare s names c ≡ Ok k → Key (length names) k
@@ -130,8 +146,8 @@ module _ (s : Scope) where
   one_key names at (by.Place p) k is = placed at (length names) p k is
   one_key names at (by.Column c) k is = named_key names c c.table k is
 
-  abbrev AreKeys : ℕ → List OrderKey → Type 0
-  AreKeys n ks = All (λ k. IsKey s.defs (places s.tables) n k.key) ks
+  abbrev pub AreKeys : ℕ → List OrderKey → Type 0
+  AreKeys n ks = All (λ k. Key n k.key) ks
 
   pub order_keys : (names : List (List ℕ)) (ks : List SortKey) (before after : List OrderKey) → AreKeys (length names) before → keys s names before ks ≡ Ok after → AreKeys (length names) after
   order_keys names [] before after h is = subst (λ z. AreKeys (length names) z) (ok_same before after is) h

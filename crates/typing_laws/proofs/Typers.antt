@@ -9,6 +9,7 @@ use Rattle.typed_trees.specs.declared.kinds.Role.{Role}
 use Rattle.typed_trees.specs.declared.kinds.Role.TheVariants.{Side, Alone}
 use Rattle.typed_trees.specs.declared.typed.Aggregate.{Aggregate}
 use Rattle.typed_trees.specs.declared.typed.TypedExpr.TheVariants as e
+use Rattle.typed_trees.specs.Columns.{columns_in}
 use Rattle.typed_trees.specs.Kinds.{family_of, role_in}
 use Rattle.typed_trees.specs.Types.{no_aggregate}
 use Rattle.query_types.specs.declared.typing.Typed.{Typed}
@@ -16,12 +17,14 @@ use Rattle.query_types.specs.Expressions as t
 use Rattle.query_types.specs.Expressions.{Typer, form_typer, expr_typer, typer}
 use Rattle.query_types.specs.Names.{Scope, inside}
 use Rattle.query_types.proofs.Typers.{form_typed}
+use Rattle.typing_laws.specs.Laws.{IsDeclared}
+use Rattle.typing_laws.proofs.Columns.{places, IsStanding}
 use Rattle.typing_laws.proofs.Forms.{GoodList, number_good, date_good, text_good, column_good, counted_good, folded_good, signed_good, negated_good, binary_good, divided_good, between_good, null_test_good, among_good, choice_good}
-use Rattle.typing_laws.proofs.Grown.{Grown, Good, good_more, From, from_pure, from_lift, from_then}
+use Rattle.typing_laws.proofs.Grown.{Grown, Good, good_more, From, from_pure, from_lift, from_then, from_inside}
 
 -- what a typer gives is typed, in every scope
 pub record Sound (T : Typer) : Type 0 where
-  pub from : (s : Scope) (role : Role) (l : List Aggregate) → From s.defs s.tables l (Good s role) (T s role)
+  pub from : (s : Scope) (role : Role) (l : List Aggregate) → From s l (Good s role) (T s role)
 
 abbrev IsSound : Expr → Type 0
 IsSound x = Sound (typer x)
@@ -34,10 +37,10 @@ Elements = List ((x : Expr) × IsSound x)
 abbrev exprs : Elements → List Expr
 exprs ys = map (λ y. y.0) ys
 
-list_more : (s : Scope) (role : Role) (l m : List Aggregate) (ts : List Typed) → Grown s.defs s.tables l m → GoodList s role l ts → GoodList s role m ts
+list_more : (s : Scope) (role : Role) (l m : List Aggregate) (ts : List Typed) → Grown s l m → GoodList s role l ts → GoodList s role m ts
 list_more s role l m ts g h = All-weaker (Good s role l) (Good s role m) (λ x k. good_more g k) ts h
 
-each_good : (s : Scope) (role : Role) (ys : Elements) (l : List Aggregate) (before : List Typed) → GoodList s role l before → From s.defs s.tables l (GoodList s role) (t.each s role before (map typer (exprs ys)))
+each_good : (s : Scope) (role : Role) (ys : Elements) (l : List Aggregate) (before : List Typed) → GoodList s role l before → From s l (GoodList s role) (t.each s role before (map typer (exprs ys)))
 each_good s role [] l before h = from_pure before h
 each_good s role (y ∷ ys) l before h =
     from_then (y.1.from s role l) (λ x m grown g.
@@ -45,11 +48,8 @@ each_good s role (y ∷ ys) l before h =
 
 aggregate_sound : (of : AggregateKind) (at : ℕ) (T : Typer) → Sound T → Sound (form_typer (Form-F.Aggregate of T) at)
 aggregate_sound of at T h = record {
-  from = λ s role l. from_then (outside s l T h) (λ a m grown g. record { gives = λ n x e. folded_good s role m n of at a x (g.type no_aggregate tt) g.sides g.columns e });
+  from = λ s role l. from_then (from_inside s (h.from (inside s) Alone l)) (λ a m grown g. record { gives = λ n x e. folded_good s role m n of at a x (g.type no_aggregate tt) g.sides (All-weaker (IsStanding (inside s)) (IsDeclared s.defs (places s.tables)) (λ c k. k.declared) (columns_in a.value) g.columns) e });
 }
-  where
-    outside : (s : Scope) (l : List Aggregate) (T : Typer) → Sound T → From s.defs s.tables l (Good (inside s) Alone) (T (inside s) Alone)
-    outside s l T h = h.from (inside s) Alone l
 
 -- ---- the induction
 

@@ -1,5 +1,6 @@
--- What holds of every query that is typed over a catalog: it is typed, and its columns have the types that the catalog gives them.
-use Rattle.std.specs.Prelude.{◌≡◌, ℕ, ◌<◌, true, List, All, length, map, slice_get, Option, Some, Ok, IsSome}
+-- What holds of every query that is typed over a catalog: it is typed, its columns have the types that the catalog gives them, and on groups they are
+-- group columns.
+use Rattle.std.specs.Prelude.{◌≡◌, ℕ, ◌+◌, ◌<◌, true, List, All, length, map, slice_get, Option, Some, Ok, IsSome}
 use Rattle.std.specs.List.{range_with_len}
 use Rattle.std.specs.Option.{option_map, option_and_then, ForSome}
 use Rattle.sql_read.specs.declared.definition.ColumnDef.{ColumnDef}
@@ -14,7 +15,7 @@ use Rattle.typed_trees.specs.declared.typed.TypedExpr.{TypedExpr}
 use Rattle.typed_trees.specs.declared.typed.TypedQuery.{TypedQuery}
 use Rattle.typed_trees.specs.Columns.{columns_in}
 use Rattle.typed_trees.specs.Typed.{IsTyped}
-use Rattle.query_types.specs.Names.{columns_of, type_of_column}
+use Rattle.query_types.specs.Names.{columns_of, type_of_column, is_group_column}
 use Rattle.query_types.specs.Sources.{is_key, same_types}
 use Rattle.query_types.specs.Typing.{typed_query}
 
@@ -75,3 +76,22 @@ pub record IsOfCatalog (defs : List TableDef) (t : TypedQuery) : Type 0 where
 -- the columns of a query that has a typed form are those of the catalog
 abbrev pub ColumnLaw : Type 0
 ColumnLaw = (q : Query) (defs : List TableDef) (t : TypedQuery) → typed_query q defs ≡ Ok t → IsOfCatalog defs t
+
+-- ---- groups
+
+abbrev pub AreGroupColumns : List ColumnRef → TypedExpr → Type 0
+AreGroupColumns groups e = All (λ x. is_group_column groups x.0 ≡ true) (columns_in e)
+
+abbrev pub IsGroupKey : List ColumnRef → KeyRef → Type 0
+IsGroupKey groups (key.Item k) = Unit {0}
+IsGroupKey groups (key.Column c) = is_group_column groups c ≡ true
+
+-- outside aggregates the columns are group columns
+pub record IsOnGroups (t : TypedQuery) : Type 0 where
+  pub having : ForSome t.having (AreGroupColumns t.groups)
+  pub items : All (AreGroupColumns t.groups) t.items
+  pub order : All (λ k. IsGroupKey t.groups k.key) t.order
+
+-- a query with group columns or aggregates is answered on groups
+abbrev pub GroupLaw : Type 0
+GroupLaw = (q : Query) (defs : List TableDef) (t : TypedQuery) → typed_query q defs ≡ Ok t → 0 < length t.groups + length t.aggregates → IsOnGroups t

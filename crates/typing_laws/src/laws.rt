@@ -1,6 +1,6 @@
 //! The laws of typing, each stated once, as a contract.
 
-ghost use Rattle.typing_laws.specs.Laws.{ColumnLaw, TypedLaw};
+ghost use Rattle.typing_laws.specs.Laws.{ColumnLaw, GroupLaw, TypedLaw};
 
 /// A query that has a typed form is typed: each operator has operands of types that it takes, each aggregate stands at its place with its scale,
 /// text literals stand as sides alone, conditions are truths, and no item is one.
@@ -12,4 +12,9 @@ pub fn typed_law()
 /// join pairs a column to its left with its own key, of one type.
 pub fn column_law()
     ensures { ColumnLaw }
+{}
+
+/// Outside aggregates the columns of a query with group columns or aggregates are group columns.
+pub fn group_law()
+    ensures { GroupLaw }
 {}
