@@ -1,0 +1,8 @@
+mod Schemas
+mod Stores
+mod Loaded
+mod Totals
+mod Asked
+mod Answers
+mod Sources
+mod Sums
