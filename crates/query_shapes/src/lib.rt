@@ -1,0 +1,4 @@
+//! The shape of every typed query.
+#![tactic(auto)]
+
+pub mod laws;
