@@ -5,3 +5,9 @@ mod Moves
 mod FittingRows
 mod Pushed
 mod Weights
+mod Sources
+mod KeptForm
+mod Declared
+mod Planned
+mod Formed
+mod Worked

@@ -1,7 +1,6 @@
 -- Which conditions move to a source, and which are left when the first sources have theirs.
 use Rattle.std.proofs.Common.{◌≡◌, ◌∙◌, ℕ, zero, suc, ◌<◌, ◌≤◌, ◌==◌, Bool, true, false, not, ◌&&◌, length, get_or, refl, sym, ap, subst, arith, ⊎_elim}
 use Rattle.std.specs.Prelude.{nat_lt}
-use Rattle.std.specs.List.{list_all}
 use Rattle.std.proofs.lemmas.Bool.{cases_eq, and_parts, and_from, and_left, and_right, not_from_true, not_from_false, eqb-true, eq-eqb, ltb-true}
 use Rattle.std.proofs.lemmas.List.Folds.{list_any_at, Any-from_list_any}
 use Rattle.std.proofs.lemmas.List.Sums.{AllPass-from_list_all, list_all-from_AllPass}
@@ -11,13 +10,9 @@ use Rattle.typed_trees.specs.declared.typed.TypedExpr.{TypedExpr}
 use Rattle.typed_trees.specs.Columns.{columns_in}
 use Rattle.typed_trees.specs.Names.{same_column, names_column}
 use Rattle.rel_plan.specs.Pushes.{names_source, sources_named, is_of_one_source, moves_to, stays}
-use Rattle.plan_laws.specs.Laws.{is_over}
+use Rattle.plan_laws.specs.Laws.{asks, is_over}
 use Rattle.plan_laws.proofs.NamedColumns.{is_named}
 use Rattle.plan_laws.proofs.Places.{one_of, only_one}
-
--- an expression that asks of this source alone
-abbrev pub asks : ℕ → TypedExpr → Bool
-asks k e = list_all (λ c. c.0.source == k) (columns_in e)
 
 abbrev pub moves : ℕ → ℕ → TypedExpr → Bool
 moves count k e = moves_to count k e && asks k e
@@ -83,7 +78,7 @@ module _ (count : ℕ) (e : TypedExpr) where
 
   module _ (within : is_over count e ≡ true) (k : ℕ) (l : k < count) where
     -- what moves to a source asks of it alone
-    asks_there : moves_to count k e ≡ true → asks k e ≡ true
+    pub asks_there : moves_to count k e ≡ true → asks k e ≡ true
     asks_there m = list_all-from_AllPass (λ c. c.0.source == k) (columns_in e) (λ i d j. at (get_or (columns_in e) i d) (AllPass-from_list_all (λ c. nat_lt c.0.source count) (columns_in e) within i d j) (named i d j))
       where
         named : (i : ℕ) (d : ColumnRef × ColumnType) → i < length (columns_in e) → names_source (get_or (columns_in e) i d).0.source e ≡ true

@@ -24,9 +24,9 @@ use Rattle.query_answers.proofs.Lists.{filter_both, filter_all}
 use Rattle.query_answers.proofs.Plans.{plan_laws}
 use Rattle.rel_plan.specs.Pushes.{moves_to, stays, with_moved, moved, pushed}
 use Rattle.plan_laws.specs.PlanAnswers.{clauses_of_plan, plan_answer}
-use Rattle.plan_laws.specs.Laws.{is_over, PushLaw}
+use Rattle.plan_laws.specs.Laws.{asks, is_over, PushLaw}
 use Rattle.plan_laws.proofs.FittingRows.{AllOf, all_with, in_places, FitsAt, no_row_fits, tables_fit, from_row_fits}
-use Rattle.plan_laws.proofs.Moves.{asks, moves, left, named_there, left_stay, moving, staying}
+use Rattle.plan_laws.proofs.Moves.{moves, left, named_there, left_stay, moving, staying}
 
 -- ---- one condition
 

@@ -119,7 +119,7 @@ module _ (weight : TypedExpr → ℕ) (count : ℕ) where
 parts_weigh : (weight : TypedExpr → ℕ) (filter conditions more : List TypedExpr) → sum_by weight (filter ++ (conditions ++ more)) ≡ sum_by weight filter + (sum_by weight conditions + sum_by weight more)
 parts_weigh weight filter conditions more = sum_by-append weight filter (conditions ++ more) ∙ ap (λ (n : ℕ). sum_by weight filter + n) (sum_by-append weight conditions more)
 
-moved_weighs : (weight : TypedExpr → ℕ) (p : RelPlan) → weighs weight (moved p) ≡ weighs weight p
+pub moved_weighs : (weight : TypedExpr → ℕ) (p : RelPlan) → weighs weight (moved p) ≡ weighs weight p
 moved_weighs weight p =
     let count = length p.sources in
     let more = arguments_of p.aggregates ++ (option_to_list p.having ++ p.items) in

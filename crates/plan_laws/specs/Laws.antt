@@ -30,6 +30,10 @@ PruneLaw = (tables : List Table) (p : RelPlan) → plan_answer tables (pruned p)
 abbrev pub is_over : ℕ → TypedExpr → Bool
 is_over count e = list_all (λ c. nat_lt c.0.source count) (columns_in e)
 
+-- an expression that asks of this source alone
+abbrev pub asks : ℕ → TypedExpr → Bool
+asks n e = list_all (λ c. c.0.source == n) (columns_in e)
+
 -- a row of the source in a place, and null in the columns of every other source
 abbrev pub row_at : ℕ → Row → ColumnRef → Value
 row_at n r c = if c.source == n then value_at c.column r else null
