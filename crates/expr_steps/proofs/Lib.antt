@@ -1,0 +1,5 @@
+pub mod Forms
+pub mod Appending
+mod Counted
+pub mod Powers
+pub mod Compiled
