@@ -3,3 +3,4 @@ pub mod Appending
 mod Counted
 pub mod Powers
 pub mod Compiled
+mod Worked

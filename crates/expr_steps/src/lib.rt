@@ -1,6 +1,7 @@
 //! Expressions as steps that work slot by slot.
 #![tactic(auto)]
 
+pub mod laws;
 mod lowering;
 mod pieces;
 mod scales;

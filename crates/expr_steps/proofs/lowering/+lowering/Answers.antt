@@ -1,4 +1,4 @@
-use Rattle.std.proofs.Common.{rules, w32, FitsSigned, ◌≡◌, ℕ, ℤ, List, length, map, drop, sym, ap, ◌∙◌, subst, arith, IfOk}
+use Rattle.std.proofs.Common.{rules, w32, FitsSigned, ◌≡◌, ℕ, ℤ, List, map, sym, ap, ◌∙◌, subst, arith, IfOk}
 use Rattle.std.proofs.lemmas.Int.{to_z-of_z}
 use Rattle.typed_trees.specs.declared.typed.TypedExpr.{TypedExpr}
 use Rattle.typed_trees.specs.Scales.{greatest, scale_of}
