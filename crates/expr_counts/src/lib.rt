@@ -1,0 +1,4 @@
+//! How many steps an expression takes.
+#![tactic(auto)]
+
+pub mod laws;
