@@ -1,0 +1,2 @@
+mod Yields
+mod Groups

@@ -1,0 +1,4 @@
+//! What every query that is read is like.
+#![tactic(auto)]
+
+pub mod laws;
