@@ -16,10 +16,10 @@ use Rattle.query_shapes.specs.Laws.{HasGroups}
 use Rattle.read_queries.specs.Laws.{GroupsLaw}
 use Rattle.read_queries.proofs.Yields.{Yields, anything, yields_value, yields_both, yields_either, yields_repeated}
 
-abbrev Written : List ColumnName → Type 0
+abbrev pub Written : List ColumnName → Type 0
 Written cs = is_written cs ≡ true
 
-one_more : (cs : List ColumnName) (x : ColumnName) → Written (cs ++ x ∷ [])
+pub one_more : (cs : List ColumnName) (x : ColumnName) → Written (cs ++ x ∷ [])
 one_more [] x = refl
 one_more (c ∷ cs) x = refl
 
@@ -28,7 +28,7 @@ yields_columns text =
     yields_both anything (λ x _. yields_repeated Written (g.another (g.column text))
     (λ cs _. yields_both anything (λ _ _. yields_both anything (λ y _. yields_value Written (cs ++ y ∷ []) (one_more cs y)))) (x ∷ []) refl)
 
-abbrev Grouped : Grouping → Type 0
+abbrev pub Grouped : Grouping → Type 0
 Grouped x = is_some x.having ≡ true → Written x.groups
 
 module _ (text : Bytes) (E : Phrase Token Expr) where

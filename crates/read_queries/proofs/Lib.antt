@@ -1,2 +1,4 @@
 mod Yields
 mod Groups
+mod Gives
+mod Answered
