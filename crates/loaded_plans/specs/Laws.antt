@@ -6,6 +6,7 @@ use Rattle.table_load.specs.Tables.{table_of}
 use Rattle.table_load.specs.Values.{Table}
 use Rattle.query_trees.specs.declared.query.Query.{Query}
 use Rattle.typed_trees.specs.declared.typed.TypedQuery.{TypedQuery}
+use Rattle.query_read.specs.QueryText.{query_of}
 use Rattle.query_types.specs.Typing.{typed_query}
 use Rattle.query_shapes.specs.Laws.{HasGroups}
 use Rattle.query_answers.specs.Answers.{query_answer}
@@ -37,3 +38,8 @@ pub record LoadedAnswers : Type 0 where
   -- the plan of a typed query, pushed and then pruned, has the query's answer
   pub query_kept :
       (defs : List TableDef) (tables : List Table) (q : Query) (t : TypedQuery) → AreLoaded defs tables → HasGroups q → typed_query q defs ≡ Ok t → plan_answer tables (pruned (pushed (plan_of t))) ≡ query_answer tables t
+
+-- the same of a query that is read from a text: no premise is left but what reading, typing and loading give
+abbrev pub ReadAnswers : Type 0
+ReadAnswers =
+    (text : List ℕ) (defs : List TableDef) (tables : List Table) (q : Query) (t : TypedQuery) → query_of text ≡ Ok q → typed_query q defs ≡ Ok t → AreLoaded defs tables → plan_answer tables (pruned (pushed (plan_of t))) ≡ query_answer tables t
