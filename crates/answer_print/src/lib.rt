@@ -1,0 +1,8 @@
+//! The answer of a query as text: the output names, then a row for each marked place of the vector that holds the answer.
+#![tactic(auto)]
+
+pub mod dates;
+pub mod numbers;
+
+/// Memory ran out: the one refusal of a call that only allocates.
+pub type NoMemory = std::alloc::AllocError;
