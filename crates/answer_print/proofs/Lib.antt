@@ -1,2 +1,5 @@
 pub mod Numerals
 pub mod Civil
+pub mod Counted
+pub mod KindLaw
+pub mod RowTexts
