@@ -3,3 +3,4 @@ pub mod Civil
 pub mod Counted
 pub mod KindLaw
 pub mod RowTexts
+mod Worked

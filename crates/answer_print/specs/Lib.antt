@@ -2,3 +2,4 @@ pub mod Held
 pub mod Kinds
 pub mod Conditions
 pub mod Shown
+pub mod Examples

@@ -6,6 +6,7 @@ pub mod dates;
 pub mod fields;
 pub mod items;
 pub mod kinds;
+pub mod laws;
 pub mod numbers;
 pub mod rows;
 mod scales;
