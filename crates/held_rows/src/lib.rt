@@ -1,0 +1,2 @@
+//! Rows that vectors hold.
+#![tactic(auto)]

@@ -1,0 +1,5 @@
+pub mod Sites
+pub mod Rows
+pub mod Groups
+pub mod Items
+pub mod Lowered

@@ -1,0 +1,2 @@
+//! The lowering of plans.
+#![tactic(auto)]

@@ -1,0 +1,2 @@
+//! Programs written part by part.
+#![tactic(auto)]

@@ -1,0 +1,2 @@
+//! The laws of checks, part by part.
+#![tactic(auto)]

@@ -1,0 +1,2 @@
+//! The laws of what parts of a program make.
+#![tactic(auto)]
