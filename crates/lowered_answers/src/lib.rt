@@ -1,0 +1,2 @@
+//! The program of a plan holds its answer.
+#![tactic(auto)]
