@@ -1,0 +1,2 @@
+//! Rows and groups that stand at a base.
+#![tactic(auto)]
