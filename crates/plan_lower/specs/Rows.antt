@@ -1,9 +1,10 @@
 -- The rows of a table, and those of them for which conditions are true.
 -- After SQL-92 (ISO/IEC 9075:1992), 7.4 <from clause> and 7.6 <where clause>; selection by positions is that of Voodoo, PVLDB 9(14), 2016, section 2.2.
-use Rattle.std.specs.Prelude.{ℕ, List, [], ◌∷◌, ◌++◌, length, codes, slice_get, Option, Some, None}
+use Rattle.std.specs.Prelude.{ℕ, ◌^◌, nat_lt, ◌&&◌, if◌then◌else◌, List, [], ◌∷◌, ◌++◌, length, codes, slice_get, Option, Some, None}
 use Rattle.std.specs.Fmt.{decimal}
 use Rattle.control_vectors.specs.Controls.{Control}
 use Rattle.control_vectors.specs.declared.PairKind.TheVariants as pair
+use Rattle.key_paths.specs.Paths.{is_path}
 use Rattle.programs.specs.declared.family.FoldOperator.TheVariants as fold
 use Rattle.programs.specs.declared.op.Op.TheVariants as op
 use Rattle.programs.specs.declared.op.Size.TheVariants as size
@@ -20,9 +21,13 @@ use Rattle.plan_lower.specs.Sites.{Base, marked_alone, moved_to, with_column, va
 
 -- ---- the rows of a table: a mark for each, and an attribute for each column that is asked for
 
+-- a text that is a path, as every column's is
+abbrev pub named_path : Label → Label
+named_path p = if nat_lt (length p) (2 ^ 32) && is_path p then p else out
+
 abbrev pub path_at : Option ColumnDef → Label
 path_at None = out
-path_at (Some c) = path_of c
+path_at (Some c) = named_path (path_of c)
 
 -- where a table has a column
 abbrev pub loaded_path : TableDef → ℕ → Label
