@@ -1,3 +1,5 @@
+pub mod Numerals
 pub mod Writers
 pub mod Statements
 pub mod Names
+pub mod Laws

@@ -1,9 +1,9 @@
 -- The names that parts give: a word without digits, a number, and what may follow it, which begins with no digit. So names of two numbers differ.
 use Rattle.std.specs.Prelude.{◌≡◌, ℕ, ◌<◌, ◌≤◌, Bool, true, not, List, [], ◌∷◌, ◌++◌}
 use Rattle.std.specs.List.{list_all}
-use Rattle.std.specs.Fmt.{decimal}
 use Rattle.std.specs.Char.{is_ascii_digit}
 use Rattle.programs.specs.Mentions.{Label}
+use Rattle.program_writers.specs.Numerals.{numeral}
 
 abbrev pub is_word : Label → Bool
 is_word word = list_all (λ b. not (is_ascii_digit b)) word
@@ -16,7 +16,7 @@ ends_number (b ∷ rest) = not (is_ascii_digit b)
 pub record HasNumber (k : ℕ) (name : Label) : Type 0 where
   pub word : Label
   pub rest : Label
-  pub is : name ≡ word ++ (decimal k ++ rest)
+  pub is : name ≡ word ++ (numeral k ++ rest)
   pub apart : is_word word ≡ true
   pub ends : ends_number rest ≡ true
 

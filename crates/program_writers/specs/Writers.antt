@@ -1,9 +1,9 @@
 -- Programs written one part after another: each new vector has a name with a number of its own, and a part tells what those behind it need of it.
 use Rattle.std.specs.Prelude.{◌≡◌, ℕ, ◌+◌, List, [], ◌∷◌, ◌++◌}
-use Rattle.std.specs.Fmt.{decimal}
 use Rattle.programs.specs.declared.op.Op.{Op}
 use Rattle.programs.specs.declared.op.Statement.{Statement}
 use Rattle.programs.specs.Mentions.{Label}
+use Rattle.program_writers.specs.Numerals.{numeral}
 
 -- statements, the number of the next name, and what is told of them
 pub record Written (A : Type 0) : Type 0 where
@@ -36,7 +36,7 @@ through f a (b ∷ bs) = f a b >>= λ next. through f next bs
 
 -- a word, and a number
 abbrev pub numbered : Label → ℕ → Label
-numbered word k = word ++ decimal k
+numbered word k = word ++ numeral k
 
 abbrev pub statement : Label → Op → Statement
 statement name op = record { name = name; op = op }
@@ -44,6 +44,14 @@ statement name op = record { name = name; op = op }
 -- one statement under a new name, which it tells
 abbrev pub make : Label → Op → Writer Label
 make word op k = record { statements = statement (numbered word k) op ∷ []; next = k + 1; told = numbered word k }
+
+-- a name that a part's own names begin with
+abbrev pub stem : Label → Writer Label
+stem word k = record { statements = []; next = k + 1; told = numbered word k }
+
+-- statements that have names already
+abbrev pub append : List Statement → Writer (Unit {0})
+append statements k = record { statements = statements; next = k; told = record {} }
 
 -- a result, which takes no number
 abbrev pub show : Label → Op → Writer (Unit {0})
