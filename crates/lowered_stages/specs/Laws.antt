@@ -28,4 +28,4 @@ abbrev pub ValueLaw : Type 1
 ValueLaw =
     (A : Type 0) (texts : List Bytes) (at : ℕ → Option DataType) (on : A → On) (held : Held A) (store env : Env) (b : Base) (word : Label) (e : TypedExpr) (k : ℕ)
     → is_word word ≡ true → IsBelow k b.vector → StandsAt texts env b on held → IsLowerable at e → Covers b e → All (λ a. CanStand texts at (on a) e) (present held)
-    → Delivers store (value_of texts word b e) k env (each (λ a. value (on a) e) (present held)) (λ values name after. Tells held (λ a. value_slot texts (value (on a) e)) name after)
+    → Delivers store (value_of texts word b e) k env (each (λ a. value (on a) e) (present held)) (λ values name next after. IsBelow next name × Tells held (λ a. value_slot texts (value (on a) e)) name after)

@@ -1,0 +1,203 @@
+-- What each part of a plan's program does: it makes the rows or groups that it is to make, passes its check, and is used.
+-- After SQL-92 (ISO/IEC 9075:1992), 7.3 <table expression> to 7.9 <query specification> and 13.1 <order by clause>.
+use Rattle.std.specs.Prelude.{◌≡◌, ℕ, ◌+◌, ◌-◌, ◌≤◌, ◌<◌, ◌^◌, Bool, true, List, [], ◌∷◌, ◌++◌, All, map, length, slice_get, Option, Some, None, Result, Ok, Err, ◌==◌}
+use Rattle.std.specs.Option.{ForSome}
+use Rattle.control_vectors.specs.Controls.{Control}
+use Rattle.control_vectors.specs.declared.Over.{Over}
+use Rattle.programs.specs.Check.{Known}
+use Rattle.programs.specs.Mentions.{Label}
+use Rattle.programs.specs.Outlines.{Shapes, outlines}
+use Rattle.programs.specs.Vectors.{Env, Named, tables}
+use Rattle.query_sizes.specs.Sizes.{nodes}
+use Rattle.sql_read.specs.declared.definition.TableDef.{TableDef}
+use Rattle.sql_read.specs.Forms.{IsFormed}
+use Rattle.sql_types.specs.Catalog.{findings}
+use Rattle.table_load.specs.Databases.{DatabaseValue, database_of}
+use Rattle.table_load.specs.Values.{Table, value_at}
+use Rattle.typed_trees.specs.declared.typed.Aggregate.{Aggregate}
+use Rattle.typed_trees.specs.declared.typed.ColumnRef.{ColumnRef}
+use Rattle.typed_trees.specs.declared.typed.KeyRef.{KeyRef}
+use Rattle.typed_trees.specs.declared.typed.KeyRef.TheVariants.{Item, Column}
+use Rattle.typed_trees.specs.declared.typed.OrderKey.{OrderKey}
+use Rattle.typed_trees.specs.declared.typed.TypedExpr.{TypedExpr}
+use Rattle.typed_trees.specs.Names.{same_column}
+use Rattle.typed_trees.specs.Types.{DataType, no_aggregate, types_of}
+use Rattle.std.specs.List.{list_any, list_all}
+use Rattle.typed_values.specs.Values.{On, Valued, value}
+use Rattle.sql_values.specs.Values.{Value, null}
+use Rattle.typed_trees.specs.declared.kinds.Kind.{Kind}
+use Rattle.value_laws.specs.Laws.{is_of}
+use Rattle.query_answers.specs.Answers.{Row, FromRow, Group, OutputRow, condition, groups_of, on_group, on_row, output_row}
+use Rattle.query_answers.specs.Answers as answers
+use Rattle.query_answers.specs.Clauses.{Clauses}
+use Rattle.query_answers.specs.Overs.{each}
+use Rattle.query_answers.specs.Overs as overs
+use Rattle.expr_steps.specs.Lowered.{Bytes}
+use Rattle.expr_values.specs.Laws.{CanStand, IsLowerable, is_known}
+use Rattle.program_writers.specs.Names.{IsBelow, is_word}
+use Rattle.program_writers.specs.Writers.{Writer}
+use Rattle.plan_lower.specs.Sites.{Base, value_of}
+use Rattle.plan_lower.specs.Rows.{rows_of, kept}
+use Rattle.plan_lower.specs.Groups.{grouped}
+use Rattle.plan_lower.specs.Items.{items_of, item_path}
+use Rattle.plan_lower.specs.Items as lowered_items
+use Rattle.held_rows.specs.Held.{Holds, packed, one}
+use Rattle.program_writers.specs.Statements.{mark}
+use Rattle.program_writers.specs.Writers.{◌>>=◌}
+use Rattle.table_load.specs.Databases.{coded}
+use Rattle.programs.specs.Vectors.{Vector}
+use Rattle.std.specs.List.{range_with_len}
+use Rattle.writer_checks.specs.Checks.{PassesFrom, HasShape}
+use Rattle.writer_runs.specs.Runs.{Makes, Delivers, Sees}
+use Rattle.writer_runs.specs.Uses.{Uses}
+use Rattle.lowered_stages.specs.Stages.{StandsAt, Stands, Covers, IsShaped}
+
+-- ---- what an expression is, so that it has a value over a base
+
+pub record CanValue (at : ℕ → Option DataType) (b : Base) (e : TypedExpr) : Type 0 where
+  pub lowerable : IsLowerable at e
+  pub covers : Covers b e
+  pub few : nodes e ≤ 2176
+
+-- and what rows are, on which it has one
+abbrev pub CanValueAll : {A : Type 0} → List Bytes → (ℕ → Option DataType) → (A → On) → List A → TypedExpr → Type 0
+CanValueAll texts at on rows e = All (λ a. CanStand texts at (on a) e) rows
+
+-- the places of one base are those of another
+pub record SamePlaces (b c : Base) : Type 0 where
+  pub columns : c.columns ≡ b.columns
+  pub aggregates : c.aggregates ≡ b.aggregates
+
+-- ---- the rows of a table
+
+-- a database of loaded tables, whose catalog is clean
+pub record IsDatabase (defs : List TableDef) (ts : List Table) : Type 0 where
+  pub clean : findings defs ≡ []
+  pub formed : All IsFormed defs
+  pub as_many : length ts ≡ length defs
+  pub short : All (λ t. length t.rows ≤ 2 ^ 20) ts
+
+-- a table's row by itself
+abbrev pub on_table : Row → On
+on_table r = record { column = λ c. value_at c.column r; aggregate = λ n. Ok null }
+
+-- the columns that are asked for, of a source, have places
+abbrev pub HasColumnsOf : ℕ → List ℕ → Base → Type 0
+HasColumnsOf source columns b = All (λ k. list_any (λ p. same_column p.column (record { source = source; column = k })) b.columns ≡ true) columns
+
+abbrev pub RowsRuns : Type 0
+RowsRuns =
+    (defs : List TableDef) (ts : List Table) (n source : ℕ) (def : TableDef) (t : Table) (columns : List ℕ) (k : ℕ) (env : Env)
+    → IsDatabase defs ts → slice_get defs n ≡ Some def → slice_get ts n ≡ Some t → All (λ c. c < length def.columns) columns
+    → Makes (tables (database_of defs ts).store) (rows_of def source columns) k env (λ b next after. Stands (database_of defs ts).dictionary b on_table (length t.rows) t.rows after × (IsBelow next b.vector × (HasColumnsOf source columns b × (All (λ p. p.column.source ≡ source) b.columns × (b.aggregates ≡ [])))))
+
+abbrev pub RowsPasses : Type 0
+RowsPasses =
+    (defs : List TableDef) (ts : List Table) (n source : ℕ) (def : TableDef) (t : Table) (columns : List ℕ)
+    → IsDatabase defs ts → slice_get defs n ≡ Some def → slice_get ts n ≡ Some t → All (λ c. c < length def.columns) columns → length columns ≤ 64
+    → PassesFrom (outlines (tables (database_of defs ts).store)) (rows_of def source columns) (λ shapes. Unit {0}) (λ b shapes. IsShaped (length t.rows) b shapes)
+
+-- what a part tells does not depend on anything but its number
+abbrev pub told_at : {A : Type 0} → Writer A → ℕ → A
+told_at m k = (m k).told
+
+abbrev pub RowsUses : Type 0
+RowsUses = (def : TableDef) (source : ℕ) (columns : List ℕ) (k : ℕ) → Uses ((told_at (rows_of def source columns) k).vector ∷ []) [] (rows_of def source columns k).statements
+
+-- ---- the rows of which conditions are true
+
+abbrev pub KeptRuns : Type 1
+KeptRuns =
+    (A : Type 0) (select : Control) (texts : List Bytes) (at : ℕ → Option DataType) (on : A → On) (len : ℕ) (rows : List A) (b : Base) (es : List TypedExpr) (k : ℕ) (store env : Env)
+    → All (CanValue at b) es → All (CanValueAll texts at on rows) es → IsBelow k b.vector → Stands texts b on len rows env
+    → Delivers store (kept select texts b es) k env (overs.kept (λ a. condition es (on a)) rows) (λ left c next after. Stands texts c on len left after × (IsBelow next c.vector × SamePlaces b c))
+
+abbrev pub KeptPasses : Type 0
+KeptPasses =
+    (tables : Shapes) (select : Control) (texts : List Bytes) (at : ℕ → Option DataType) (len : ℕ) (b : Base) (es : List TypedExpr) → len ≤ 2 ^ 22 → All (CanValue at b) es
+    → PassesFrom tables (kept select texts b es) (IsShaped len b) (λ c shapes. IsShaped len c shapes × SamePlaces b c)
+
+abbrev pub KeptUses : Type 0
+KeptUses = (select : Control) (texts : List Bytes) (b : Base) (es : List TypedExpr) (k : ℕ) → Uses ((told_at (kept select texts b es) k).vector ∷ []) (b.vector ∷ []) (kept select texts b es k).statements
+
+-- ---- groups
+
+-- a group as what expressions are evaluated on
+abbrev pub itself : On → On
+itself on = on
+
+-- what is grouped: group columns that have places, and arguments of aggregates
+pub record CanGroup (b : Base) (columns : List ColumnRef) (aggregates : List Aggregate) : Type 0 where
+  pub places : All (λ c. list_any (λ p. same_column p.column c) b.columns ≡ true) columns
+  pub few : length columns ≤ 4
+  pub arguments : All (λ a. ForSome a.argument (CanValue no_aggregate b)) aggregates
+  pub typed : (n : ℕ) → n < length aggregates → ForSome (types_of aggregates n) (λ t. Unit {0})
+
+-- rows in whose group columns stand values of one kind and known texts, and on which arguments have values
+-- values of one kind or null, whose texts are texts of the dictionary
+pub record AreAlike (texts : List Bytes) (values : List Value) : Type 0 where
+  pub kind : Kind
+  pub each_is : All (λ v. is_of kind v ≡ true) values
+  pub known : All (λ v. is_known texts v ≡ true) values
+
+pub record CanGroupRows (texts : List Bytes) (columns : List ColumnRef) (aggregates : List Aggregate) (rows : List FromRow) : Type 0 where
+  pub columns_alike : All (λ c. AreAlike texts (map (λ r. (on_row r).column c) rows)) columns
+  pub arguments : All (λ a. ForSome a.argument (CanValueAll texts no_aggregate on_row rows)) aggregates
+
+-- the groups, with the values of their aggregates: `q` has these group columns and aggregates
+abbrev pub GroupedRuns : Type 0
+GroupedRuns =
+    (texts : List Bytes) (q : Clauses) (len : ℕ) (rows : List FromRow) (b : Base) (k : ℕ) (store env : Env)
+    → CanGroup b q.groups q.aggregates → CanGroupRows texts q.groups q.aggregates rows → IsBelow k b.vector → Stands texts b on_row len rows env
+    → Delivers store (grouped texts b q.groups q.aggregates) k env (each (on_group q) (groups_of q.groups rows))
+        (λ groups c next after. (count : ℕ) × (Stands texts c itself count groups after × (IsBelow next c.vector × (All (λ g. list_any (λ p. same_column p.column g) c.columns ≡ true) q.groups × ((n : ℕ) → n < length q.aggregates → list_any (λ p. p.aggregate == n) c.aggregates ≡ true)))))
+
+-- the groups' vector is as long as the rows', or has one place
+abbrev pub GroupedPasses : Type 0
+GroupedPasses =
+    (tables : Shapes) (texts : List Bytes) (len : ℕ) (b : Base) (columns : List ColumnRef) (aggregates : List Aggregate) → len ≤ 2 ^ 22 → CanGroup b columns aggregates
+    → PassesFrom tables (grouped texts b columns aggregates) (IsShaped len b) (λ c shapes. (count : ℕ) × ((count ≤ 2 ^ 22) × IsShaped count c shapes))
+
+abbrev pub GroupedUses : Type 0
+GroupedUses = (texts : List Bytes) (b : Base) (columns : List ColumnRef) (aggregates : List Aggregate) (k : ℕ) → Uses ((told_at (grouped texts b columns aggregates) k).vector ∷ []) (b.vector ∷ []) (grouped texts b columns aggregates k).statements
+
+-- ---- items in order
+
+-- keys are items, or columns that have places
+abbrev pub IsKeyOf : ℕ → Base → KeyRef → Type 0
+IsKeyOf items b (Item n) = n < items
+IsKeyOf items b (Column c) = list_any (λ p. same_column p.column c) b.columns ≡ true
+
+abbrev pub key_alike : {A : Type 0} → List Bytes → (A → On) → List A → KeyRef → Type 0
+key_alike texts on rows (Item n) = Unit {0}
+key_alike texts on rows (Column c) = AreAlike texts (map (λ a. (on a).column c) rows)
+
+-- the vector of the items in order, which the result shows
+abbrev pub ordered_items : List Bytes → Base → List TypedExpr → List OrderKey → Writer Label
+ordered_items texts b items keys = items_of texts b items >>= λ vector. lowered_items.in_order b vector keys
+
+-- the answer's rows
+abbrev pub answer_rows : Clauses → List OutputRow → List Row
+answer_rows q outputs = map (λ o. o.items) (answers.in_order q.order outputs)
+
+-- an attribute for each item, and the mark, and no other
+pub record HoldsItems (texts : List Bytes) (items : ℕ) (rows : List Row) (v : Vector) : Type 0 where
+  pub fit : length rows ≤ v.len
+  pub holds : Holds v (packed v.len rows) ((mark, one) ∷ map (λ n. (item_path n, λ row. coded texts (value_at (n - 1) row))) (range_with_len 1 items))
+  pub alone : length v.attributes ≡ items + 1
+
+abbrev pub ItemsRuns : Type 1
+ItemsRuns =
+    (A : Type 0) (texts : List Bytes) (at : ℕ → Option DataType) (on : A → On) (q : Clauses) (len : ℕ) (rows : List A) (b : Base) (k : ℕ) (store env : Env)
+    → All (CanValue at b) q.items → All (CanValueAll texts at on rows) q.items → length q.items ≤ 64 → length q.order ≤ 8 → All (λ key. IsKeyOf (length q.items) b key.key) q.order → All (λ key. key_alike texts on rows key.key) q.order
+    → IsBelow k b.vector → Stands texts b on len rows env
+    → Delivers store (ordered_items texts b q.items q.order) k env (each (λ a. output_row q (on a)) rows)
+        (λ outputs name next after. (v : Vector) × (Sees after name v × (HoldsItems texts (length q.items) (answer_rows q outputs) v × IsBelow next name)))
+
+abbrev pub ItemsPasses : Type 0
+ItemsPasses =
+    (tables : Shapes) (texts : List Bytes) (at : ℕ → Option DataType) (len : ℕ) (b : Base) (items : List TypedExpr) (keys : List OrderKey) → len ≤ 2 ^ 22 → All (CanValue at b) items → length items ≤ 64 → length keys ≤ 8 → All (λ key. IsKeyOf (length items) b key.key) keys
+    → PassesFrom tables (ordered_items texts b items keys) (IsShaped len b) (λ name shapes. HasShape shapes name len (mark ∷ []))
+
+abbrev pub ItemsUses : Type 0
+ItemsUses = (texts : List Bytes) (b : Base) (items : List TypedExpr) (keys : List OrderKey) (k : ℕ) → Uses (told_at (ordered_items texts b items keys) k ∷ []) (b.vector ∷ []) (ordered_items texts b items keys k).statements
