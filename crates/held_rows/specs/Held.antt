@@ -1,8 +1,8 @@
 -- Rows in the places of a vector: at each place one row, or none. The rows stand in the order of their places.
 -- After the structured vectors and empty slots of Voodoo, PVLDB 9(14), 2016, section 2.
-use Rattle.std.specs.Prelude.{◌≡◌, ℕ, ◌-◌, pos, List, [], ◌∷◌, ◌++◌, length, map, replicate, Option, Some, None}
+use Rattle.std.specs.Prelude.{◌≡◌, ℕ, ◌-◌, pos, List, [], ◌∷◌, ◌++◌, length, map, replicate, Option, Some, None, Ok}
 use Rattle.std.specs.List.{All}
-use Rattle.control_vectors.specs.Slots.{Slot}
+use Rattle.control_vectors.specs.Slots.{Slot, Cell}
 use Rattle.programs.specs.Mentions.{Label}
 use Rattle.programs.specs.Vectors.{Vector, slots_of}
 
@@ -23,6 +23,11 @@ at f (Some a) = f a
 
 abbrev pub column : {A : Type 0} → (A → Slot) → Held A → List Slot
 column f held = map (at f) held
+
+-- what is made of a row, as a cell
+abbrev pub cell_at : {A : Type 0} → (A → Cell) → Option A → Cell
+cell_at f None = Ok None
+cell_at f (Some a) = f a
 
 -- the mark: 1 for each row
 abbrev pub one : {A : Type 0} → A → Slot

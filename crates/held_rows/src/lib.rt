@@ -1,2 +1,4 @@
 //! Rows that vectors hold.
 #![tactic(auto)]
+
+pub mod laws;
