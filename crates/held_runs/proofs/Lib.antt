@@ -1,0 +1,5 @@
+pub mod Marks
+pub mod Stretches
+pub mod Heads
+pub mod Folded
+pub mod Whole
