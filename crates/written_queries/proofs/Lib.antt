@@ -1,0 +1,6 @@
+mod Days
+mod BoundedForms
+mod Keeping
+mod Literals
+mod Texts
+mod Scales

@@ -1,0 +1,18 @@
+//! What a lowering needs of the expressions of a query, each law stated once, as a contract.
+
+ghost use Rattle.written_queries.specs.Bounds.{BoundedLaw};
+ghost use Rattle.written_queries.specs.Scales.{ScalesLaw};
+
+use sql_types::laws::columns_are_sized;
+
+/// The literals of a query that is read are within bounds: numbers of at most 2^127 - 1 and 18 digits after the point, days of the years 1 to 9999.
+pub fn bounded_law()
+    ensures { BoundedLaw }
+{}
+
+/// In a schema that is read, and has nothing wrong with it, no column has more than 18 digits after its point.
+pub fn scales_law()
+    ensures { ScalesLaw }
+{
+    columns_are_sized();
+}
