@@ -4,3 +4,11 @@ mod Keeping
 mod Literals
 mod Texts
 mod Scales
+mod Columns
+mod WrittenForms
+mod Forms
+mod Steps
+mod Trees
+mod Parts
+mod Clauses
+mod Queries

@@ -1,6 +1,7 @@
 //! What a lowering needs of the expressions of a query, each law stated once, as a contract.
 
 ghost use Rattle.written_queries.specs.Bounds.{BoundedLaw};
+ghost use Rattle.written_queries.specs.Laws.{WrittenLaw};
 ghost use Rattle.written_queries.specs.Scales.{ScalesLaw};
 
 use sql_types::laws::columns_are_sized;
@@ -15,4 +16,11 @@ pub fn scales_law()
     ensures { ScalesLaw }
 {
     columns_are_sized();
+}
+
+/// The literals of a query that is read and typed are as the grammar has them.
+pub fn written_law()
+    ensures { WrittenLaw }
+{
+    bounded_law();
 }
