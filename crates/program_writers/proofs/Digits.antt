@@ -62,3 +62,7 @@ distinct j k e = sym (value_of_numeral j) ∙ ap (digits_value 10) e ∙ value_o
 
 pub some_digit : (n : ℕ) → 0 < length (numeral n)
 some_digit = by_digits (λ m ds. 0 < length ds) (λ m l. omega arith) (λ m ds l h. omega (arith, length-append ds ((48 + m % 10) ∷ [])))
+
+-- the same, where what is printed stands in a text
+pub numeral_is : (k : ℕ) → k < 2 ^ 64 → decimal k ≡ numeral k
+numeral_is k small = sym (printed k small)

@@ -2,6 +2,8 @@
 #![tactic(auto)]
 
 pub mod laws;
+pub mod operators;
+pub mod paths;
 mod writer;
 
 pub use writer::Writer;

@@ -1,0 +1,36 @@
+//! The paths that parts read and make.
+
+ghost use Rattle.std.specs.Prelude.{◌≡◌, IfOk};
+ghost use Rattle.program_writers.specs.Statements as spec;
+
+use io_edge::NoMemory;
+use key_paths::Path;
+use std::alloc::Global;
+
+/// What an operator makes.
+pub fn out(alloc: Global) -> Result<Path, NoMemory>
+    ensures { IfOk result (λ p. p ≡ spec.out) }
+{
+    Path::of(alloc, ".out")
+}
+
+/// Nonempty where a row or a group stands.
+pub fn mark(alloc: Global) -> Result<Path, NoMemory>
+    ensures { IfOk result (λ p. p ≡ spec.mark) }
+{
+    Path::of(alloc, ".mark")
+}
+
+/// The values of a fold.
+pub fn val(alloc: Global) -> Result<Path, NoMemory>
+    ensures { IfOk result (λ p. p ≡ spec.val) }
+{
+    Path::of(alloc, ".val")
+}
+
+/// The runs of a fold.
+pub fn run(alloc: Global) -> Result<Path, NoMemory>
+    ensures { IfOk result (λ p. p ≡ spec.run) }
+{
+    Path::of(alloc, ".run")
+}
