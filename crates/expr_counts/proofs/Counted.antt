@@ -15,9 +15,9 @@ use Rattle.query_sizes.specs.Sizes.{form_nodes, nodes}
 use Rattle.expr_steps.specs.declared.steps.Source.{Source}
 use Rattle.expr_steps.specs.declared.steps.Source.TheVariants.{Column, Aggregate}
 use Rattle.expr_steps.specs.Codes.{Code, one, and_then}
-use Rattle.expr_steps.specs.Lowered.{Bytes, Part, part_of, lowered, form_code, zero, opposite, constants, binary, sign_step, divided, null_test, outside, unless_negated, by_polarity, any_equal, or_equal, found_equal, first_there, filled, filled_from, most_scale, times, raise}
+use Rattle.expr_steps.specs.Lowered.{Bytes, Part, part_of, lowered, form_code, zero, opposite, constants, binary, sign_step, divided, null_test, outside, unless_negated, by_polarity, found_among, any_equal, or_equal, found_equal, first_there, filled, filled_from, most_scale, times, raise}
 use Rattle.expr_steps.proofs.Forms.{lowered_roll}
-use Rattle.expr_counts.specs.Counts.{form_steps, most_steps, others_steps, in_steps, between_steps, binary_steps, FormLaw, NodeLaw, CountLaw}
+use Rattle.expr_counts.specs.Counts.{form_steps, most_steps, alone_steps, others_steps, in_steps, between_steps, binary_steps, FormLaw, NodeLaw, CountLaw}
 use Rattle.expr_counts.proofs.Most.{AtMost, then_most, none_most, one_most, opposite_most, times_most, binary_most, sign_most, null_test_most, polarity_most, between_most, found_equal_most, filled_from_most}
 
 -- ---- the folds by form
@@ -45,6 +45,10 @@ any_equal_most texts x a (y ∷ ys) found =
     then_most (most_steps y.0 + 3) rest (or_equal texts x a (part_of texts y.0) found) (any_equal texts x a (map (part_of texts) (exprs texts ys)))
     (then_most (most_steps y.0) 3 (lowered texts y.0) (found_equal texts x a (part_of texts y.0) found) y.1 (λ b. found_equal_most texts x (part_of texts y.0) a found b))
     (λ next. any_equal_most texts x a ys next)
+
+found_among_most : (texts : List Bytes) (x : Part) (a : Source) (ys : List ((e : TypedExpr) × Few texts e)) → AtMost (alone_steps (map most_steps (exprs texts ys)) + others_steps 3 (map most_steps (exprs texts ys))) (found_among texts x a (map (part_of texts) (exprs texts ys)))
+found_among_most texts x a [] = λ k. omega arith
+found_among_most texts x a (y ∷ ys) = any_equal_most texts x a (y ∷ ys) zero
 
 first_there_most : (texts : List Bytes) (to : ℕ) (ys : List ((e : TypedExpr) × Few texts e)) (found : Source) → AtMost (others_steps 2 (map most_steps (exprs texts ys))) (first_there to (map (part_of texts) (exprs texts ys)) found)
 first_there_most texts to [] found = λ k. omega arith
@@ -79,10 +83,10 @@ by_layer texts (TypedExpr-F.Between p x y z) =
     (λ b. then_most (most_steps z.0) (between_steps p) (lowered texts z.0) (λ c. and_then (outside texts px py pz a b c) (unless_negated p)) z.1 (λ c. between_most texts p px py pz a b c))))
 by_layer texts (TypedExpr-F.In p x ys) =
     let px = part_of texts x.0 in
-    let more = others_steps 3 (map most_steps (exprs texts ys)) in
+    let more = alone_steps (map most_steps (exprs texts ys)) + others_steps 3 (map most_steps (exprs texts ys)) in
     by_form texts (TypedExpr-F.In p x.0 (exprs texts ys))
-    (then_most (most_steps x.0) (more + in_steps p) (lowered texts x.0) (λ a. and_then (any_equal texts px a (map (part_of texts) (exprs texts ys)) zero) (by_polarity p)) x.1
-    (λ a. then_most more (in_steps p) (any_equal texts px a (map (part_of texts) (exprs texts ys)) zero) (by_polarity p) (any_equal_most texts px a ys zero) (polarity_most p)))
+    (then_most (most_steps x.0) (more + in_steps p) (lowered texts x.0) (λ a. and_then (found_among texts px a (map (part_of texts) (exprs texts ys))) (by_polarity p)) x.1
+    (λ a. then_most more (in_steps p) (found_among texts px a (map (part_of texts) (exprs texts ys))) (by_polarity p) (found_among_most texts px a ys) (polarity_most p)))
 by_layer texts (TypedExpr-F.IsNull p x) = by_form texts (TypedExpr-F.IsNull p x.0) (then_most (most_steps x.0) 2 (lowered texts x.0) (null_test p) x.1 (null_test_most p))
 by_layer texts (TypedExpr-F.Coalesce x ys) =
     let px = part_of texts x.0 in
@@ -139,6 +143,10 @@ in_few : (p : Polarity) → in_steps p ≤ 1
 in_few Plain = omega arith
 in_few Negated = omega arith
 
+alone_few : (ys : List ℕ) → alone_steps ys ≤ 1
+alone_few [] = omega arith
+alone_few (y ∷ ys) = omega arith
+
 layer_within : (y : TypedExpr-F ((e : TypedExpr) × Within e)) → Within (roll-TypedExpr (map-TypedExpr ((e : TypedExpr) × Within e) TypedExpr (λ x. x.0) y))
 layer_within (TypedExpr-F.Number n scale) = within_by (TypedExpr-F.Number n scale) (omega arith)
 layer_within (TypedExpr-F.Text t) = within_by (TypedExpr-F.Text t) (omega arith)
@@ -150,7 +158,7 @@ layer_within (TypedExpr-F.Not x) = let a = x.1 in within_by (TypedExpr-F.Not x.0
 layer_within (TypedExpr-F.Binary o x y) = let a = x.1 in let b = y.1 in let c = binary_few o in within_by (TypedExpr-F.Binary o x.0 y.0) (omega (arith, a, b, c))
 layer_within (TypedExpr-F.Divide x s n) = let a = x.1 in within_by (TypedExpr-F.Divide x.0 s n) (omega (arith, a))
 layer_within (TypedExpr-F.Between p x y z) = let a = x.1 in let b = y.1 in let c = z.1 in let d = between_few p in within_by (TypedExpr-F.Between p x.0 y.0 z.0) (omega (arith, a, b, c, d))
-layer_within (TypedExpr-F.In p x ys) = let a = x.1 in let b = others_within 3 ys (omega arith) in let c = in_few p in within_by (TypedExpr-F.In p x.0 (nodes_in ys)) (omega (arith, a, b, c))
+layer_within (TypedExpr-F.In p x ys) = let a = x.1 in let b = others_within 3 ys (omega arith) in let c = in_few p in let d = alone_few (map most_steps (nodes_in ys)) in within_by (TypedExpr-F.In p x.0 (nodes_in ys)) (omega (arith, a, b, c, d))
 layer_within (TypedExpr-F.IsNull p x) = let a = x.1 in within_by (TypedExpr-F.IsNull p x.0) (omega (arith, a))
 layer_within (TypedExpr-F.Coalesce x ys) = let a = x.1 in let b = others_within 2 ys (omega arith) in within_by (TypedExpr-F.Coalesce x.0 (nodes_in ys)) (omega (arith, a, b))
 

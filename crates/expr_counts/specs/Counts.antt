@@ -33,6 +33,11 @@ abbrev pub in_steps : Polarity → ℕ
 in_steps Plain = 0
 in_steps Negated = 1
 
+-- where IN has no operands, a step reads its left side
+abbrev pub alone_steps : List ℕ → ℕ
+alone_steps [] = 1
+alone_steps (y ∷ ys) = 0
+
 -- each of the others takes this many more
 abbrev pub others_steps : ℕ → List ℕ → ℕ
 others_steps each [] = 0
@@ -50,7 +55,7 @@ form_steps (TypedExpr-F.Not x) = x + 1
 form_steps (TypedExpr-F.Binary o x y) = x + (y + binary_steps o)
 form_steps (TypedExpr-F.Divide x s n) = x + 1
 form_steps (TypedExpr-F.Between p x a b) = x + (a + (b + between_steps p))
-form_steps (TypedExpr-F.In p x ys) = x + (others_steps 3 ys + in_steps p)
+form_steps (TypedExpr-F.In p x ys) = x + ((alone_steps ys + others_steps 3 ys) + in_steps p)
 form_steps (TypedExpr-F.IsNull p x) = x + 2
 form_steps (TypedExpr-F.Coalesce x ys) = x + (1 + others_steps 2 ys)
 

@@ -1,5 +1,5 @@
 -- Pieces of code that are appended one behind another.
-use Rattle.std.proofs.Common.{◌≡◌, ℕ, ◌+◌, List, [], ◌∷◌, ◌++◌, length, refl, sym, ap, ◌∙◌, subst, append_assoc, append-nil, length-append, IfOk, Result, Ok, Err}
+use Rattle.std.proofs.Common.{◌≡◌, ◌+◌, List, ◌++◌, length, refl, sym, ap, ◌∙◌, subst, append_assoc, append-nil, length-append, IfOk, Result, Ok, Err}
 use Rattle.expr_steps.specs.declared.steps.Source.{Source}
 use Rattle.expr_steps.specs.declared.steps.Step.{Step}
 use Rattle.expr_steps.specs.Codes.{Code, Coded, from_source, and_then, Appends}

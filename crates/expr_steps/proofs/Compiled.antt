@@ -1,12 +1,12 @@
 -- The code that is appended for each form of an expression.
-use Rattle.std.proofs.Common.{◌≡◌, ℕ, ◌+◌, ◌<◌, suc, ◌≤◌, List, [], ◌∷◌, map, drop, get_or, length, sym, ap, ◌∙◌, subst, refl, IfOk, Result, Ok, Err}
+use Rattle.std.proofs.Common.{◌≡◌, ℕ, ◌+◌, ◌==◌, false, ◌<◌, ◌≤◌, List, [], ◌∷◌, map, drop, get_or, length, sym, ap, ◌∙◌, subst, refl, IfOk, Result}
 use Rattle.typed_trees.specs.declared.typed.TypedExpr.{TypedExpr}
 use Rattle.typed_trees.specs.Scales.{greatest, scale_of}
 use Rattle.typed_values.specs.Narrow.{counted}
 use Rattle.expr_steps.specs.declared.steps.Source.{Source}
 use Rattle.expr_steps.specs.declared.steps.Step.{Step}
 use Rattle.expr_steps.specs.Codes.{Code, from_source, and_then, Appends}
-use Rattle.expr_steps.specs.Lowered.{Bytes, Part, part_of, lowered, any_equal, or_equal, found_equal, first_there, filled, filled_from, most_scale}
+use Rattle.expr_steps.specs.Lowered.{Bytes, Part, part_of, lowered, zero, found_among, any_equal, or_equal, found_equal, first_there, filled, filled_from, most_scale}
 use Rattle.expr_steps.proofs.Appending.{nothing_appended, appended, passed_on, then_appended}
 use Rattle.std.proofs.lemmas.List.{drop_all}
 use Rattle.expr_steps.proofs.Counted.{rest_from, greatest_counted}
@@ -44,6 +44,11 @@ first_there_continues texts to y found b next l i old now mid new whole h is so_
     let one_more : Appends (filled to py found) now new next = appended (lowered texts y) (filled_from to (scale_of y) found) now mid new b next at step in
     let joined : Appends (first_there to (py ∷ map (part_of texts) (drop (i + 1) l)) found) now more z = appended (filled to py found) (first_there to (map (part_of texts) (drop (i + 1) l))) now new more next z one_more rest in
     so_far more z (subst (λ (ys : List Part). Appends (first_there to ys found) now more z) (sym (parts_from texts l i y h is)) joined)
+
+-- where IN has some operands, each is compared
+pub among_some : (texts : List Bytes) (x : TypedExpr) (a : Source) (l : List TypedExpr) → false ≡ (length l == 0) → found_among texts (part_of texts x) a (map (part_of texts) l) ≡ any_equal texts (part_of texts x) a (map (part_of texts) l) zero
+among_some texts x a [] h = absurd cc
+among_some texts x a (y ∷ ys) h = refl
 
 pub finished : (l : List TypedExpr) (i : ℕ) → length l ≤ i → drop i l ≡ []
 finished l i h = drop_all i l h

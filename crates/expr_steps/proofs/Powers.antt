@@ -1,5 +1,5 @@
 -- The powers of ten that numbers are rescaled by have 128 bits.
-use Rattle.std.proofs.Common.{◌≡◌, ℕ, pos, ◌^◌, ◌<◌, ◌≤◌, Bool, true, ℤ, Option, Some, None, if◌then◌else◌, refl, sym, ap, ◌∙◌, arith}
+use Rattle.std.proofs.Common.{◌≡◌, ℕ, pos, ◌^◌, ◌<◌, ◌≤◌, Bool, Some, None, if◌then◌else◌, ap, arith}
 use Rattle.std.proofs.Math.Nat.{pow-le-pow_right}
 use Rattle.std.proofs.lemmas.Bool.{lt-ltb}
 use Rattle.control_vectors.specs.Slots.{in_128_bits}

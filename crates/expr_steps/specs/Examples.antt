@@ -1,7 +1,6 @@
 -- Worked code. Column 0 is an INTEGER, column 1 a DECIMAL(10, 2), column 2 a DATE, column 3 a VARCHAR(9); the texts of the dictionary are AIR, RAIL and TRUCK.
 -- Step 0 is a 0 at each marked place, and step 1 a 1; the last step gives the value.
 use Rattle.std.specs.Prelude.{◌≡◌, ℕ, ℤ, pos, negsuc, List, [], ◌∷◌, map, codes}
-use Rattle.control_vectors.specs.declared.PairKind.{PairKind}
 use Rattle.control_vectors.specs.declared.PairKind.TheVariants as pair
 use Rattle.sql_read.specs.declared.definition.ColumnKind.TheVariants as kind
 use Rattle.query_trees.specs.declared.expr.BinaryOp.TheVariants as op
@@ -64,9 +63,9 @@ worked =
     ∷ (e.Binary op.Equal word (e.Text (codes "RAIL")), literal (pos 1) ∷ pair_step pair.Equals (col 3) (at.Made 2) ∷ value (at.Made 3) ∷ [])
     ∷ (e.Binary op.Less word (e.Text (codes "MAIL")), literal (pos 1) ∷ pair_step pair.Multiply (col 3) (num (pos 2)) ∷ pair_step pair.Greater (at.Made 2) (at.Made 3) ∷ value (at.Made 4) ∷ [])
     ∷ (e.Binary op.GreaterEqual word (e.Text (codes "MAIL")), literal (pos 1) ∷ pair_step pair.Multiply (col 3) (num (pos 2)) ∷ pair_step pair.Greater (at.Made 2) (at.Made 3) ∷ pair_step pair.Equals (at.Made 4) (num (pos 0)) ∷ value (at.Made 5) ∷ [])
-    -- a text below all of them; two literals compare as they are written
+    -- a text below all of them; two literals compare as they are written, and their steps are read
     ∷ (e.Binary op.Differs word (e.Text []), literal (negsuc 0) ∷ pair_step pair.Multiply (col 3) (num (pos 2)) ∷ pair_step pair.Equals (at.Made 3) (at.Made 2) ∷ pair_step pair.Equals (at.Made 4) (num (pos 0)) ∷ value (at.Made 5) ∷ [])
-    ∷ (e.Binary op.Less (e.Text (codes "LAIR")) (e.Text (codes "MAIL")), literal (pos 1) ∷ literal (pos 1) ∷ value (at.Made 1) ∷ [])
+    ∷ (e.Binary op.Less (e.Text (codes "LAIR")) (e.Text (codes "MAIL")), literal (pos 1) ∷ literal (pos 1) ∷ pair_step pair.Fill (at.Made 1) (at.Made 2) ∷ pair_step pair.Fill (at.Made 4) (at.Made 3) ∷ value (at.Made 5) ∷ [])
     -- amount < 0.001 is rescaled on its left, number + amount too
     ∷ (e.Binary op.Less amount (e.Number 1 3), literal (pos 1) ∷ pair_step pair.Multiply (col 1) (num (pos 10)) ∷ pair_step pair.Greater (at.Made 2) (at.Made 3) ∷ value (at.Made 4) ∷ [])
     ∷ (e.Binary op.Add number amount, pair_step pair.Multiply (col 0) (num (pos 100)) ∷ pair_step pair.Add (at.Made 2) (col 1) ∷ value (at.Made 3) ∷ [])
@@ -122,6 +121,11 @@ worked =
           ∷ pair_step pair.Equals (at.Made 7) (num (pos 0))
           ∷ value (at.Made 8)
           ∷ [],
+    )
+    -- number + 1 IN (): no query has it, and its steps are read all the same
+    ∷ (
+      e.In Plain (e.Binary op.Add number (e.Number 1 0)) [],
+      literal (pos 1) ∷ pair_step pair.Add (col 0) (at.Made 2) ∷ pair_step pair.Fill (at.Made 0) (at.Made 3) ∷ value (at.Made 4) ∷ [],
     )
     -- aggregate 3 is above 5 and the number is 0
     ∷ (

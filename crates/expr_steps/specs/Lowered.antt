@@ -1,10 +1,9 @@
 -- An expression as steps that work slot by slot: a number is itself, a date its day, a text its code, a truth 1 or 0, and a null or an unknown is empty.
 -- Two steps stand before all others: a 0 and a 1 at each marked place. What they leave is empty at every other place, and so is all that is made of it.
 -- After SQL-92 (ISO/IEC 9075:1992), 6.11 <value expression>, 6.12 <numeric value expression>, 8.2 to 8.6 and 8.12 <search condition>; the operators are those of Voodoo, PVLDB 9(14), 2016, table 2.
-use Rattle.std.specs.Prelude.{ℕ, ◌+◌, ◌-◌, ◌*◌, ◌^◌, max, min, ℤ, pos, ◌-ℤ◌, Bool, true, false, List, [], ◌∷◌, ◌++◌, map, if◌then◌else◌, Option, Some, None}
+use Rattle.std.specs.Prelude.{ℕ, ◌-◌, ◌*◌, ◌^◌, max, min, ℤ, pos, ◌-ℤ◌, Bool, true, false, List, [], ◌∷◌, ◌++◌, map, if◌then◌else◌, Option, Some, None}
 use Rattle.std.specs.Ordering.{int_eq}
 use Rattle.sql_values.specs.Texts.{by_bytes}
-use Rattle.control_vectors.specs.declared.PairKind.{PairKind}
 use Rattle.control_vectors.specs.declared.PairKind.TheVariants as pair
 use Rattle.dict_codes.specs.Dictionaries.{rank_in, is_among}
 use Rattle.query_trees.specs.declared.expr.BinaryOp.{BinaryOp}
@@ -125,9 +124,13 @@ comparing op.LessEqual x y = and_then (one pair.Greater x y) opposite
 comparing op.Greater x y = one pair.Greater x y
 comparing o x y = and_then (one pair.Greater y x) opposite
 
+-- a truth that is known, where both operands stand: it is nonempty wherever the mark is, and Fill keeps what is nonempty
+abbrev pub known : Bool → Source → Source → Code
+known h a b = and_then (one pair.Fill (truth_source h) a) (λ x. one pair.Fill x b)
+
 -- two text literals compare as they are written
 abbrev pub compared_as : BinaryOp → Option Bytes → Option Bytes → Factors → Source → Source → Code
-compared_as o (Some s) (Some t) f a b = from_source (truth_source (holds o (by_bytes s t)))
+compared_as o (Some s) (Some t) f a b = known (holds o (by_bytes s t)) a b
 compared_as o s t f a b = brought_together f a b (comparing o)
 
 abbrev pub compared : List Bytes → BinaryOp → Part → Part → Source → Source → Code
@@ -177,8 +180,13 @@ abbrev pub any_equal : List Bytes → Part → Source → List Part → Source �
 any_equal texts x a [] found = from_source found
 any_equal texts x a (y ∷ ys) found = and_then (or_equal texts x a y found) (any_equal texts x a ys)
 
+-- none is equal yet; where there is none at all, a step reads x all the same
+abbrev pub found_among : List Bytes → Part → Source → List Part → Code
+found_among texts x a [] = one pair.Fill zero a
+found_among texts x a (y ∷ ys) = any_equal texts x a (y ∷ ys) zero
+
 abbrev pub among : List Bytes → Polarity → Part → List Part → Code
-among texts p x ys = and_then x.code (λ a. and_then (any_equal texts x a ys zero) (by_polarity p))
+among texts p x ys = and_then x.code (λ a. and_then (found_among texts x a ys) (by_polarity p))
 
 -- 0 and 1 of what is there, and the other truth where only the mark is
 abbrev pub null_test : Polarity → Source → Code

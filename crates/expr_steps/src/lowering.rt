@@ -10,7 +10,7 @@ ghost use Rattle.expr_steps.specs.Codes.{Appends, and_then};
 ghost use Rattle.expr_steps.specs.Lowered as spec;
 
 use crate::pieces::{
-    between_scales, brought_to_add, brought_to_compare, by_polarity, date_constant, divided,
+    between_scales, brought_to_add, brought_to_compare, by_polarity, date_constant, divided, known,
     null_test, number_constant, opposite, put, raise, sign_step, steps_a_code, text_constant,
     times, truth_source, unless_negated,
 };
@@ -79,7 +79,7 @@ fn compared(
     ensures { IfOk result (Appends (spec.compared dictionary.now op (spec.part_of dictionary.now x.now) (spec.part_of dictionary.now y.now) a b) steps.old.items steps.new.items) }
 {
     match (literal_of(x), literal_of(y)) {
-        (Some(s), Some(t)) => Ok(truth_source(holds(op, s.text(), t.text()))),
+        (Some(s), Some(t)) => known(steps, holds(op, s.text(), t.text()), a, b),
         _ => brought_to_compare(steps, factors(dictionary, x, y), op, a, b),
     }
 }
@@ -170,18 +170,21 @@ fn or_equal(
     put(steps, PairKind::LogicalOr, found, same)
 }
 
-/// Whether a value that stands at `a` is equal to one of the others.
+/// Whether a value that stands at `a` is equal to one of the others. Where there are none, a step reads it all the same.
 #[cycle(lowering)]
-fn lower_any_equal(
+fn lower_among(
     steps: &mut Vec<Step>,
     dictionary: &Dictionary,
     others: &[TypedExpr],
     x: &TypedExpr,
     a: Source,
 ) -> Result<Source, NoMemory>
-    ensures { IfOk result (Appends (spec.any_equal dictionary.now (spec.part_of dictionary.now x.now) a (map (spec.part_of dictionary.now) others.now) spec.zero) steps.old.items steps.new.items) }
+    ensures { IfOk result (Appends (spec.found_among dictionary.now (spec.part_of dictionary.now x.now) a (map (spec.part_of dictionary.now) others.now)) steps.old.items steps.new.items) }
 {
     let mut found = truth_source(false);
+    if others.is_empty() {
+        return put(steps, PairKind::Fill, found, a);
+    }
     for y in others {
         let b = lower(steps, dictionary, y)?;
         found = or_equal(steps, dictionary, x, y, a, b, found)?;
@@ -278,7 +281,7 @@ fn lower(steps: &mut Vec<Step>, dictionary: &Dictionary, e: &TypedExpr) -> Resul
         }
         TypedExpr::In(polarity, x, others) => {
             let a = lower(steps, dictionary, x.get())?;
-            let found = lower_any_equal(steps, dictionary, others.as_slice(), x.get(), a)?;
+            let found = lower_among(steps, dictionary, others.as_slice(), x.get(), a)?;
             by_polarity(steps, *polarity, found)
         }
         TypedExpr::IsNull(polarity, x) => {

@@ -32,6 +32,14 @@ pub fn truth_source(holds: bool) -> Source
     }
 }
 
+/// A truth that is known, at the places where both operands stand.
+pub fn known(steps: &mut Vec<Step>, holds: bool, a: Source, b: Source) -> Result<Source, NoMemory>
+    ensures { IfOk result (Appends (spec.known holds a b) steps.old.items steps.new.items) }
+{
+    let first = put(steps, PairKind::Fill, truth_source(holds), a)?;
+    put(steps, PairKind::Fill, first, b)
+}
+
 /// 0 of 1, and 1 of 0.
 pub fn opposite(steps: &mut Vec<Step>, x: Source) -> Result<Source, NoMemory>
     ensures { IfOk result (Appends (spec.opposite x) steps.old.items steps.new.items) }

@@ -8,7 +8,7 @@ use Rattle.expr_steps.specs.declared.steps.Source.TheVariants.{Column, Aggregate
 use Rattle.expr_steps.specs.Codes.{Code, and_then, Appends}
 use Rattle.expr_steps.specs.Lowered as spec
 use Rattle.expr_steps.proofs.Appending.{nothing_appended, passed_on, then_appended}
-use Rattle.expr_steps.proofs.Compiled.{as_source, after_one, after_next, any_equal_continues, first_there_continues, finished, most_of_parts}
+use Rattle.expr_steps.proofs.Compiled.{as_source, after_one, after_next, among_some, any_equal_continues, first_there_continues, finished, most_of_parts}
 use Rattle.expr_steps.proofs.Forms.{lowered_Number, lowered_Text, lowered_Date, lowered_Column, lowered_Aggregate, lowered_Signed, lowered_Not, lowered_Binary, lowered_Divide, lowered_Between, lowered_In, lowered_IsNull, lowered_Coalesce}
 use Rattle.expr_steps.proofs.lowering.+lowering.Goals as goal
 
@@ -99,13 +99,13 @@ lower-returns-in_ok-found-in-In t c =
     let part = spec.part_of texts in
     let a = c.in_ok-a-in-In.a in
     let mid = c.lower-in-In.new.steps.items in
-    let last = c.lower_any_equal.new.steps.items in
+    let last = c.lower_among.new.steps.items in
     let found = c.in_ok-found-in-In.found in
-    after_one texts c.args.e.now c.in-In.x c.get-in-In.result.now (λ a. and_then (spec.any_equal texts (part c.in-In.x) a (map part c.in-In.others) spec.zero) (spec.by_polarity c.in-In.polarity)) c.args.steps.now.items mid c.by_polarity.new.steps.items a c.by_polarity.result
+    after_one texts c.args.e.now c.in-In.x c.get-in-In.result.now (λ a. and_then (spec.found_among texts (part c.in-In.x) a (map part c.in-In.others)) (spec.by_polarity c.in-In.polarity)) c.args.steps.now.items mid c.by_polarity.new.steps.items a c.by_polarity.result
     (ap (spec.lowered texts) c.in-In.is ∙ lowered_In texts c.in-In.polarity c.in-In.x c.in-In.others) c.get-in-In.ensures c.in_ok-a-in-In.ensures
-    (then_appended (spec.any_equal texts (part c.in-In.x) a (map part c.in-In.others) spec.zero) (spec.by_polarity c.in-In.polarity) mid last c.by_polarity.new.steps.items found c.by_polarity.result
-    (subst (λ (x : TypedExpr). Appends (spec.any_equal texts (part x) a (map part c.in-In.others) spec.zero) mid last found) c.get-in-In-2.ensures
-    (subst (λ (ys : List TypedExpr). Appends (spec.any_equal texts (part c.get-in-In-2.result.now) a (map part ys) spec.zero) mid last found) c.as_slice.ensures c.in_ok-found-in-In.ensures)) c.by_polarity.ensures)
+    (then_appended (spec.found_among texts (part c.in-In.x) a (map part c.in-In.others)) (spec.by_polarity c.in-In.polarity) mid last c.by_polarity.new.steps.items found c.by_polarity.result
+    (subst (λ (x : TypedExpr). Appends (spec.found_among texts (part x) a (map part c.in-In.others)) mid last found) c.get-in-In-2.ensures
+    (subst (λ (ys : List TypedExpr). Appends (spec.found_among texts (part c.get-in-In-2.result.now) a (map part ys)) mid last found) c.as_slice.ensures c.in_ok-found-in-In.ensures)) c.by_polarity.ensures)
 
 pub lower-returns-in_ok-a-in-IsNull : goal.lower-returns-in_ok-a-in-IsNull
 lower-returns-in_ok-a-in-IsNull t c =
@@ -135,22 +135,23 @@ lower-returns-in_ok-first-in-Coalesce t c =
     (subst (λ (z : TypedExpr). Appends (spec.times (spec.raise to (counted (scale_of z))) a) mid last first) c.get-in-Coalesce-3.ensures c.in_ok-first-in-Coalesce.ensures)
     (subst (λ (l : List TypedExpr). IfOk c.lower_first_there.result (Appends (spec.first_there to (map part l) first) last end)) c.as_slice-in-Coalesce-2.ensures c.lower_first_there.ensures)))
 
-pub lower_any_equal-loop-y-init : goal.lower_any_equal-loop-y-init
-lower_any_equal-loop-y-init t c new z rest =
+pub lower_among-loop-y-init : goal.lower_among-loop-y-init
+lower_among-loop-y-init t c new z rest =
     subst (λ (found : Source). Appends (spec.any_equal c.args.dictionary.now (spec.part_of c.args.dictionary.now c.args.x.now) c.args.a (map (spec.part_of c.args.dictionary.now) c.args.others.now) found) c.args.steps.now.items new z) c.truth_source-found.ensures rest
 
-pub lower_any_equal-loop-y-preserved : goal.lower_any_equal-loop-y-preserved
-lower_any_equal-loop-y-preserved t c =
+pub lower_among-loop-y-preserved : goal.lower_among-loop-y-preserved
+lower_among-loop-y-preserved t c =
     let texts = c.args.dictionary.now in
     any_equal_continues texts c.args.x.now c.y-item.result c.args.a c.loop-y.found c.in_ok-b.b c.in_ok-found.found c.args.others.now c.loop-y.y-index c.args.steps.now.items c.loop-y.steps.items c.lower.new.steps.items c.or_equal.new.steps.items
     (spec.any_equal texts (spec.part_of texts c.args.x.now) c.args.a (map (spec.part_of texts) c.args.others.now) spec.zero) (omega (arith, c.loop-y-test.true)) c.y-item.is c.loop-y.invariant c.in_ok-b.ensures c.in_ok-found.ensures
 
-pub lower_any_equal-returns : goal.lower_any_equal-returns
-lower_any_equal-returns t c =
+pub lower_among-returns : goal.lower_among-returns
+lower_among-returns t c =
     let texts = c.args.dictionary.now in
-    c.loop-y.invariant c.loop-y.steps.items c.loop-y.found
+    subst (λ (m : Code). Appends m c.args.steps.now.items c.loop-y.steps.items c.loop-y.found) (sym (among_some texts c.args.x.now c.args.a c.args.others.now c.if-is_empty.ensures))
+    (c.loop-y.invariant c.loop-y.steps.items c.loop-y.found
     (subst (λ (l : List TypedExpr). Appends (spec.any_equal texts (spec.part_of texts c.args.x.now) c.args.a (map (spec.part_of texts) l) c.loop-y.found) c.loop-y.steps.items c.loop-y.steps.items c.loop-y.found) (sym (finished c.args.others.now c.loop-y.y-index (omega (arith, c.loop-y-test.false))))
-    (nothing_appended c.loop-y.steps.items c.loop-y.found))
+    (nothing_appended c.loop-y.steps.items c.loop-y.found)))
 
 pub lower_first_there-loop-y-init : goal.lower_first_there-loop-y-init
 lower_first_there-loop-y-init t c new z rest = rest

@@ -3,8 +3,8 @@ use Rattle.expr_steps.specs.Lowered.{part_of, any_equal, first_there, zero}
 use Rattle.expr_steps.proofs.Compiled.{Continues}
 use Rattle.expr_steps.proofs.lowering.+lowering.Given as goal
 
-abbrev pub invariant-lower_any_equal-loop-y : goal.invariant-lower_any_equal-loop-y
-invariant-lower_any_equal-loop-y l =
+abbrev pub invariant-lower_among-loop-y : goal.invariant-lower_among-loop-y
+invariant-lower_among-loop-y l =
     Continues (any_equal l.dictionary (part_of l.dictionary l.x) l.a (map (part_of l.dictionary) (drop l.y-index l.others))) l.fn.steps.items
     (any_equal l.dictionary (part_of l.dictionary l.x) l.a (map (part_of l.dictionary) l.others) zero) l.steps.items l.found
 
