@@ -3,6 +3,7 @@
 use Rattle.std.specs.Prelude.{ℕ, pos, List, [], ◌∷◌, ◌++◌, map, codes, false, Option, Some, None}
 use Rattle.std.specs.Fmt.{decimal}
 use Rattle.std.specs.List.{enumerate_from}
+use Rattle.control_vectors.specs.Controls.{Control}
 use Rattle.control_vectors.specs.declared.PairKind.TheVariants as pair
 use Rattle.programs.specs.declared.family.FoldOperator.{FoldOperator}
 use Rattle.programs.specs.declared.family.FoldOperator.TheVariants as fold
@@ -87,12 +88,20 @@ by_columns b columns = do
 
 -- ---- without group columns: one group, even of no rows, in a vector of one place
 
+-- a vector of one place
+abbrev pub one_place : Label → Label → Control → Writer Label
+one_place word p control = make word (op.Range (size.Number 1) p control)
+
+-- one run of all places
+abbrev pub one_run : Label → Writer Label
+one_run vector = make (codes "runs") (op.Range (size.Of vector) run zeros)
+
 abbrev pub as_one : Base → Writer Folding
 as_one b = do
   nought ← nought_at b.vector
-  runs ← make (codes "runs") (op.Range (size.Of b.vector) run zeros)
-  first ← make (codes "first") (op.Range (size.Number 1) out zeros)
-  groups ← make (codes "groups") (op.Range (size.Number 1) mark ones)
+  runs ← one_run b.vector
+  first ← one_place (codes "first") out zeros
+  groups ← one_place (codes "groups") mark ones
   zero ← nought_at groups
   tell (record { rows = b; nought = nought; runs = runs; first = Some first; groups = marked_alone groups; zero = zero })
 

@@ -19,6 +19,10 @@ use Rattle.plan_lower.specs.Sites.{Base, path_in, value_of}
 abbrev pub item_path : ℕ → Label
 item_path k = codes ".c" ++ decimal k
 
+-- the mark of a vector alone
+abbrev pub mark_alone : Label → Label → Writer Label
+mark_alone word vector = make word (op.Project vector mark mark)
+
 abbrev pub item_of : List Bytes → Base → Label → ℕ × TypedExpr → Writer Label
 item_of texts b items (k, e) = do
   value ← value_of texts (codes "item") b e
@@ -27,7 +31,7 @@ item_of texts b items (k, e) = do
 -- the items alone, with the mark
 abbrev pub items_of : List Bytes → Base → List TypedExpr → Writer Label
 items_of texts b items = do
-  vector ← make (codes "items") (op.Project b.vector mark mark)
+  vector ← mark_alone (codes "items") b.vector
   through (item_of texts b) vector (enumerate_from 1 items)
 
 -- ---- in order
@@ -45,7 +49,7 @@ numbered_key b items keys (j, k) = key_of b items keys j k.key
 
 abbrev pub keys_of : Base → Label → List OrderKey → Writer Label
 keys_of b items keys = do
-  vector ← make (codes "keys") (op.Project b.vector mark mark)
+  vector ← mark_alone (codes "keys") b.vector
   through (numbered_key b items) vector (enumerate_from 0 keys)
 
 abbrev pub key_by : ℕ × OrderKey → OrderPath

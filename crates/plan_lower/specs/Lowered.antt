@@ -1,6 +1,6 @@
 -- The program of a plan over one table: its rows, those for which WHERE is true, their groups, those for which HAVING is true, and the items in order.
 -- After SQL-92 (ISO/IEC 9075:1992), 7.3 <table expression> to 7.9 <query specification>.
-use Rattle.std.specs.Prelude.{ℕ, Bool, true, false, List, [], ◌∷◌, slice_index_or, option_to_list}
+use Rattle.std.specs.Prelude.{ℕ, Bool, true, false, List, [], ◌∷◌, slice_get, option_to_list, Option, Some, None}
 use Rattle.control_vectors.specs.Controls.{Control}
 use Rattle.programs.specs.declared.op.Statement.{Statement}
 use Rattle.sql_read.specs.declared.definition.TableDef.{TableDef}
@@ -14,17 +14,26 @@ use Rattle.plan_lower.specs.Rows.{rows_of, kept}
 use Rattle.plan_lower.specs.Groups.{grouped}
 use Rattle.plan_lower.specs.Items.{answered}
 
-abbrev pub no_table : TableDef
-no_table = record { name = []; at = 0; columns = []; keys = [] }
+-- no rows, of no vector
+abbrev pub nothing : Base
+nothing = marked_alone []
+
+-- the rows of a table, where it is defined
+abbrev pub defined_rows : Option TableDef → List ℕ → Writer Base
+defined_rows None columns = tell nothing
+defined_rows (Some def) columns = rows_of def 0 columns
+
+abbrev pub table_rows : List TableDef → ℕ → List ℕ → Writer Base
+table_rows defs table columns = defined_rows (slice_get defs table) columns
 
 -- a source's rows, but for those that its conditions drop
 abbrev pub source_rows : Control → List Bytes → List TableDef → PlanSource → Writer Base
 source_rows select texts defs s = do
-  b ← rows_of (slice_index_or defs s.table no_table) 0 s.columns
+  b ← table_rows defs s.table s.columns
   kept select texts b s.filter
 
 abbrev pub from_rows : Control → List Bytes → List TableDef → List PlanSource → Writer Base
-from_rows select texts defs [] = tell (marked_alone [])
+from_rows select texts defs [] = tell nothing
 from_rows select texts defs (s ∷ sources) = source_rows select texts defs s
 
 -- the rows or the groups that items are evaluated on

@@ -42,12 +42,16 @@ column_in def source table b k = do
   rows ← make (codes "rows") (with_attribute b.vector (value_path (length b.columns)) table (loaded_path def k))
   tell (with_column rows (record { source = source; column = k }) (value_path (length b.columns)) b)
 
+-- the mark of each row of a table
+abbrev pub marked : Label → Writer Label
+marked table = make (codes "rows") (op.Range (size.Of table) mark ones)
+
 -- the s-th source, whose table is loaded
 abbrev pub rows_of : TableDef → ℕ → List ℕ → Writer Base
 rows_of def source columns = do
   table ← make (codes "table") (op.Load def.name)
-  marked ← make (codes "rows") (op.Range (size.Of table) mark ones)
-  through (column_in def source table) (marked_alone marked) columns
+  vector ← marked table
+  through (column_in def source table) (marked_alone vector) columns
 
 -- ---- the rows for which each of some conditions is true
 
@@ -61,15 +65,23 @@ and_true texts b all e = do
   value ← value_of texts (codes "where") b e
   make (codes "all") (pair pair.LogicalAnd (attribute all out) (attribute value out))
 
--- the rows at the places that a truth holds
+-- the places that a truth holds
+abbrev pub places_of : Control → Label → Label → Writer Label
+places_of select vector all = do
+  runs ← make (codes "runs") (op.Range (size.Of vector) run select)
+  pick ← make (codes "pick") (with_attribute runs val all out)
+  make (codes "places") (fold_of fold.Select (fold_args pick))
+
+-- the rows there
 abbrev pub selected : Control → Base → Label → Writer Base
 selected select b all = do
-  runs ← make (codes "runs") (op.Range (size.Of b.vector) run select)
-  pick ← make (codes "pick") (with_attribute runs val all out)
-  places ← make (codes "places") (fold_of fold.Select (fold_args pick))
+  places ← places_of select b.vector all
   rows ← make (codes "rows") (at_places b.vector places)
   tell (moved_to rows b)
 
 abbrev pub kept : Control → List Bytes → Base → List TypedExpr → Writer Base
 kept select texts b [] = tell b
-kept select texts b (e ∷ es) = everywhere b >>= λ all. through (and_true texts b) all (e ∷ es) >>= selected select b
+kept select texts b (e ∷ es) = do
+  all ← everywhere b
+  truth ← through (and_true texts b) all (e ∷ es)
+  selected select b truth
