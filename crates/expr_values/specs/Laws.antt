@@ -1,6 +1,6 @@
 -- The laws of an expression's steps at one place: where a row stands they leave its value, or are Over exactly where the value is; where none stands they leave nothing.
 -- After SQL-92 (ISO/IEC 9075:1992), 6.11 <value expression>, 8.2 to 8.6 and 8.12 <search condition>.
-use Rattle.std.specs.Prelude.{◌≡◌, ℕ, Bool, true, List, [], ◌∷◌, length, replicate, is_some, Option, Some, None, Result, Ok, Err, IsOkAnd, ⊥}
+use Rattle.std.specs.Prelude.{◌≡◌, ℕ, Bool, true, List, [], ◌∷◌, length, replicate, is_some, Option, Some, None, Result, Ok, Err, IsOkAnd}
 use Rattle.std.specs.List.{last_or}
 use Rattle.control_vectors.specs.Slots.{Slot, Cell}
 use Rattle.control_vectors.specs.declared.Over.{Over}
