@@ -1,7 +1,6 @@
 -- What the steps of an expression make at one place of a vector, in order: each a slot, or Over.
 -- After SQL-92 (ISO/IEC 9075:1992), 6.11 <value expression>; the operators are those of Voodoo, PVLDB 9(14), 2016, table 2.
-use Rattle.std.specs.Prelude.{ℕ, List, [], ◌∷◌, ◌++◌, slice_index_or, Option, Some, None, Result, Ok, Err}
-use Rattle.std.specs.List.{last_or}
+use Rattle.std.specs.Prelude.{ℕ, ◌-◌, List, [], ◌∷◌, ◌++◌, length, slice_index_or, Option, Some, None, Result, Ok, Err}
 use Rattle.control_vectors.specs.Slots.{Slot, Cell}
 use Rattle.control_vectors.specs.declared.Over.{Over}
 use Rattle.slot_wise.specs.Pairs.{pair_slot}
@@ -40,7 +39,7 @@ made_by p (step ∷ rest) made = with_cell made (step_cell p made step) (made_by
 -- what the last step makes
 abbrev pub last_cell : Result (List Slot) Over → Cell
 last_cell (Err e) = Err e
-last_cell (Ok made) = Ok (last_or None made)
+last_cell (Ok made) = Ok (slice_index_or made (length made - 1) None)
 
 abbrev pub steps_cell : Place → List Step → Cell
 steps_cell p steps = last_cell (made_by p steps [])

@@ -1,2 +1,4 @@
-//! The value of an expression, as steps make it at one place.
+//! What the steps of an expression leave at one place of a vector: the value of the expression there.
 #![tactic(auto)]
+
+pub mod laws;
