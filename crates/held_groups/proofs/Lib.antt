@@ -1,0 +1,4 @@
+pub mod Codes
+pub mod Sorted
+pub mod Groups
+pub mod Aggregates

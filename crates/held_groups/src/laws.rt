@@ -1,0 +1,28 @@
+//! The laws of groups and their aggregates over slots, each stated once, as a contract.
+
+ghost use Rattle.held_groups.specs.Groups.{CodeLaw, SortLaw, GroupLaw, MemberLaw};
+ghost use Rattle.held_groups.specs.Aggregates.{ThereLaw, ValuesLaw, RowsLaw, RowCountLaw};
+
+/// Values of one kind compare as the slots that stand for them.
+pub fn code_law()
+    ensures { CodeLaw }
+{}
+
+/// Rows that are sorted by slots are sorted by their group key.
+pub fn sort_law()
+    ensures { SortLaw }
+{}
+
+/// The groups are the runs of the sorted rows, and their rows are rows of the list.
+pub fn group_law()
+    ensures groups { GroupLaw }
+    ensures members { MemberLaw }
+{}
+
+/// An aggregate over a group is what folds make of its slots.
+pub fn aggregate_laws()
+    ensures there { ThereLaw }
+    ensures values { ValuesLaw }
+    ensures rows { RowsLaw }
+    ensures count { RowCountLaw }
+{}
