@@ -15,7 +15,6 @@ use Rattle.control_vectors.specs.Runs.{slot_eq, tuple_eq, run_marks, runs}
 use Rattle.sort_order.specs.Orders.{sorted_by}
 use Rattle.sort_order.proofs.StableSorts.{insertion_sorts, insertion_is_stable}
 use Rattle.sql_values.specs.Values.{by_value}
-use Rattle.typed_trees.specs.declared.kinds.Kind.{Kind}
 use Rattle.typed_trees.specs.declared.typed.ColumnRef.{ColumnRef}
 use Rattle.query_answers.specs.Answers.{FromRow, column_value, group_key, by_key}
 use Rattle.query_answers.specs.Runs.{key_before, key_marks, run_group}
@@ -24,9 +23,9 @@ use Rattle.query_answers.proofs.KeyOrders.{keys_total}
 use Rattle.held_rows.specs.Laws.{row_before}
 use Rattle.held_runs.specs.Laws.{tuple_by, row_runs}
 use Rattle.held_runs.proofs.Heads.{rows_again}
-use Rattle.held_groups.specs.Groups.{column_slot, column_key, RowCanCode, AreSame, sorted_rows, run_slots, GroupLaw, MemberLaw}
+use Rattle.held_groups.specs.Groups.{column_slot, column_key, AreSame, sorted_rows, run_slots, GroupLaw, MemberLaw}
 use Rattle.held_groups.proofs.Codes.{code_law}
-use Rattle.held_groups.proofs.Sorted.{all_from, all_at, all_sorted, sort_law}
+use Rattle.held_groups.proofs.Sorted.{all_from, all_at, all_sorted, Kinds, RowCanCode, kinds_of, each_can, sort_law}
 
 -- ---- tests of all elements of lists that have the same ones
 
@@ -75,29 +74,33 @@ keys_equal : (columns : List ColumnRef) (r s : FromRow) → is_eq (by_key (group
 keys_equal [] r s = refl
 keys_equal (c ∷ cs) r s = then_equal (by_value (column_value r c) (column_value s c)) (by_key (group_key cs r) (group_key cs s)) ∙ ap (λ (b : Bool). equal_in r s c && b) (keys_equal cs r s)
 
-module _ (texts : List (List ℕ)) (kind : ColumnRef → Kind) (r s : FromRow) where
-  abbrev pub CanBoth : List ColumnRef → Type 0
-  CanBoth columns = RowCanCode texts kind columns r × RowCanCode texts kind columns s
+module _ (texts : List (List ℕ)) (r s : FromRow) where
+  abbrev pub CanBoth : (columns : List ColumnRef) → Kinds columns → Type 0
+  CanBoth columns kinds = RowCanCode texts columns kinds r × RowCanCode texts columns kinds s
 
-  equal_slots : (c : ColumnRef) (cs : List ColumnRef) → CanBoth (c ∷ cs) → slot_eq (column_slot texts c r) (column_slot texts c s) ≡ equal_in r s c
-  equal_slots c cs h =
-      slots_equal (column_slot texts c r) (column_slot texts c s) ∙ ap is_eq (code_law texts (kind c) (column_value r c) (column_value s c) (h.0 c (here c cs)) (h.1 c (here c cs)))
+  abbrev pub later_kinds : (c : ColumnRef) (cs : List ColumnRef) → Kinds (c ∷ cs) → Kinds cs
+  later_kinds c cs kinds = λ d k. kinds d (there c d cs k)
 
-  later : (c : ColumnRef) (cs : List ColumnRef) → CanBoth (c ∷ cs) → CanBoth cs
-  later c cs h = (λ d k. h.0 d (there c d cs k), λ d k. h.1 d (there c d cs k))
+  equal_slots : (c : ColumnRef) (cs : List ColumnRef) (kinds : Kinds (c ∷ cs)) → CanBoth (c ∷ cs) kinds → slot_eq (column_slot texts c r) (column_slot texts c s) ≡ equal_in r s c
+  equal_slots c cs kinds h =
+      slots_equal (column_slot texts c r) (column_slot texts c s)
+      ∙ ap is_eq (code_law texts (kinds c (here c cs)) (column_value r c) (column_value s c) (h.0 c (here c cs)) (h.1 c (here c cs)))
 
-  behind_equal : (behind : List ColumnRef) → CanBoth behind → tuple_eq (tuple_by (map (column_slot texts) behind) r) (tuple_by (map (column_slot texts) behind) s) ≡ list_all (equal_in r s) behind
-  behind_equal [] h = refl
-  behind_equal (c ∷ cs) h = λ i. equal_slots c cs h i && behind_equal cs (later c cs h) i
+  later : (c : ColumnRef) (cs : List ColumnRef) (kinds : Kinds (c ∷ cs)) → CanBoth (c ∷ cs) kinds → CanBoth cs (later_kinds c cs kinds)
+  later c cs kinds h = (λ d k. h.0 d (there c d cs k), λ d k. h.1 d (there c d cs k))
 
-  tuples_equal : (front behind : List ColumnRef) → CanBoth (front ++ behind) → tuple_eq (tuple_by (run_slots texts front behind) r) (tuple_by (run_slots texts front behind) s) ≡ list_all (equal_in r s) (front ++ behind)
-  tuples_equal [] behind h = behind_equal behind h
-  tuples_equal (c ∷ cs) behind h = λ i. equal_slots c (cs ++ behind) h i && tuples_equal cs behind (later c (cs ++ behind) h) i
+  behind_equal : (behind : List ColumnRef) (kinds : Kinds behind) → CanBoth behind kinds → tuple_eq (tuple_by (map (column_slot texts) behind) r) (tuple_by (map (column_slot texts) behind) s) ≡ list_all (equal_in r s) behind
+  behind_equal [] kinds h = refl
+  behind_equal (c ∷ cs) kinds h = λ i. equal_slots c cs kinds h i && behind_equal cs (later_kinds c cs kinds) (later c cs kinds h) i
 
-  agree : (columns front behind : List ColumnRef) → CanBoth columns → AreSame columns (front ++ behind) → tuple_eq (tuple_by (run_slots texts front behind) r) (tuple_by (run_slots texts front behind) s) ≡ is_eq (by_key (group_key columns r) (group_key columns s))
-  agree columns front behind h same =
-      let others : CanBoth (front ++ behind) = (λ c k. h.0 c ((same c).1 k), λ c k. h.1 c ((same c).1 k)) in
-      tuples_equal front behind others ∙ (sym (same_tests (equal_in r s) columns (front ++ behind) same) ∙ sym (keys_equal columns r s))
+  tuples_equal : (front behind : List ColumnRef) (kinds : Kinds (front ++ behind)) → CanBoth (front ++ behind) kinds → tuple_eq (tuple_by (run_slots texts front behind) r) (tuple_by (run_slots texts front behind) s) ≡ list_all (equal_in r s) (front ++ behind)
+  tuples_equal [] behind kinds h = behind_equal behind kinds h
+  tuples_equal (c ∷ cs) behind kinds h = λ i. equal_slots c (cs ++ behind) kinds h i && tuples_equal cs behind (later_kinds c (cs ++ behind) kinds) (later c (cs ++ behind) kinds h) i
+
+  agree : (columns front behind : List ColumnRef) (kinds : Kinds columns) → CanBoth columns kinds → AreSame columns (front ++ behind) → tuple_eq (tuple_by (run_slots texts front behind) r) (tuple_by (run_slots texts front behind) s) ≡ is_eq (by_key (group_key columns r) (group_key columns s))
+  agree columns front behind kinds h same =
+      let others : CanBoth (front ++ behind) (λ c k. kinds c ((same c).1 k)) = (λ c k. h.0 c ((same c).1 k), λ c k. h.1 c ((same c).1 k)) in
+      tuples_equal front behind (λ c k. kinds c ((same c).1 k)) others ∙ (sym (same_tests (equal_in r s) columns (front ++ behind) same) ∙ sym (keys_equal columns r s))
 
 -- ---- the groups
 
@@ -105,14 +108,15 @@ key_order : (columns : List ColumnRef) → IsStrictWeakOrder (key_before columns
 key_order columns = ranks_by keys_total (group_key columns)
 
 pub group_law : GroupLaw
-group_law texts kind c cs front behind rows h same =
+group_law texts c cs front behind rows can same =
     let columns = c ∷ cs in
     let sorted = sorted_rows texts columns rows in
-    let is : sorted ≡ sorted_by (key_before columns) rows = sort_law texts kind columns rows h in
-    let can : AllByRecursion (RowCanCode texts kind columns) sorted = all_sorted (RowCanCode texts kind columns) (row_before (map (column_key texts) columns)) rows (all_from (RowCanCode texts kind columns) rows h) in
-    let at = all_at (RowCanCode texts kind columns) sorted can in
+    let is : sorted ≡ sorted_by (key_before columns) rows = sort_law texts columns rows can in
+    let kinds = kinds_of texts columns rows can in
+    let all : AllByRecursion (RowCanCode texts columns kinds) sorted = all_sorted (RowCanCode texts columns kinds) (row_before (map (column_key texts) columns)) rows (each_can texts columns rows can) in
+    let at = all_at (RowCanCode texts columns kinds) sorted all in
     let marks : run_marks (map (tuple_by (run_slots texts front behind)) sorted) ≡ key_marks (map (group_key columns) sorted) =
-    marks_are (group_key columns) (tuple_by (run_slots texts front behind)) sorted (λ r s p q. agree texts kind r s columns front behind (at r p, at s q) same) in
+    marks_are (group_key columns) (tuple_by (run_slots texts front behind)) sorted (λ r s p q. agree texts r s columns front behind kinds (at r p, at s q) same) in
     ap (λ (ms : List Bool). map (run_group columns) (runs ms sorted)) marks
     ∙ (ap (λ (l : List FromRow). map (run_group columns) (runs (key_marks (map (group_key columns) l)) l)) is
     ∙ sym (groups_are c cs rows (sorted_by (key_before columns) rows) (insertion_sorts (key_before columns) (key_order columns) rows) (insertion_is_stable (key_before columns) (key_order columns) rows)))

@@ -9,7 +9,7 @@ use Rattle.typed_trees.specs.declared.typed.ColumnRef.{ColumnRef}
 use Rattle.query_answers.specs.Answers.{FromRow, column_value, group_key, by_key}
 use Rattle.query_answers.specs.Runs.{key_before}
 use Rattle.held_rows.specs.Laws.{rows_cmp, row_before}
-use Rattle.held_groups.specs.Groups.{column_key, RowCanCode, SortLaw}
+use Rattle.held_groups.specs.Groups.{CanCode, column_key, RowsCanCode, SortLaw}
 use Rattle.held_groups.proofs.Codes.{code_law}
 
 -- ---- what holds of all elements
@@ -49,15 +49,31 @@ module _ {X : Type 0} (P : X → Type 0) where
 
 -- ---- rows compare as their keys do
 
-module _ (texts : List (List ℕ)) (kind : ColumnRef → Kind) where
-  key_cmp : (columns : List ColumnRef) (r s : FromRow) → RowCanCode texts kind columns r → RowCanCode texts kind columns s → rows_cmp (map (column_key texts) columns) r s ≡ by_key (group_key columns r) (group_key columns s)
-  key_cmp [] r s h g = refl
-  key_cmp (c ∷ cs) r s h g =
-      let first = code_law texts (kind c) (column_value r c) (column_value s c) (h c (here c cs)) (g c (here c cs)) in
-      let others = key_cmp cs r s (λ d k. h d (there c d cs k)) (λ d k. g d (there c d cs k)) in
+-- for each of some columns a kind, of which a row's value there is
+abbrev pub Kinds : List ColumnRef → Type 0
+Kinds columns = (c : ColumnRef) → Contains columns c → Kind
+
+abbrev pub RowCanCode : List (List ℕ) → (columns : List ColumnRef) → Kinds columns → FromRow → Type 0
+RowCanCode texts columns kinds row = (c : ColumnRef) (h : Contains columns c) → CanCode texts (kinds c h) (column_value row c)
+
+module _ (texts : List (List ℕ)) where
+  key_cmp : (columns : List ColumnRef) (kinds : Kinds columns) (r s : FromRow) → RowCanCode texts columns kinds r → RowCanCode texts columns kinds s → rows_cmp (map (column_key texts) columns) r s ≡ by_key (group_key columns r) (group_key columns s)
+  key_cmp [] kinds r s h g = refl
+  key_cmp (c ∷ cs) kinds r s h g =
+      let first = code_law texts (kinds c (here c cs)) (column_value r c) (column_value s c) (h c (here c cs)) (g c (here c cs)) in
+      let others = key_cmp cs (λ d k. kinds d (there c d cs k)) r s (λ d k. h d (there c d cs k)) (λ d k. g d (there c d cs k)) in
       λ i. ordering_then (first i) (others i)
 
+  -- the rows of a list
+  module _ (columns : List ColumnRef) (rows : List FromRow) (can : RowsCanCode texts columns rows) where
+    abbrev pub kinds_of : Kinds columns
+    kinds_of c h = (can c h).0
+
+    pub each_can : AllByRecursion (RowCanCode texts columns kinds_of) rows
+    each_can = all_from (RowCanCode texts columns kinds_of) rows (λ row k c h. (can c h).1 row k)
+
 pub sort_law : SortLaw
-sort_law texts kind columns rows h =
-    sorted_agree (RowCanCode texts kind columns) (row_before (map (column_key texts) columns)) (key_before columns) (λ r s p q. ap is_lt (key_cmp texts kind columns r s p q)) rows
-    (all_from (RowCanCode texts kind columns) rows h)
+sort_law texts columns rows can =
+    let kinds = kinds_of texts columns rows can in
+    sorted_agree (RowCanCode texts columns kinds) (row_before (map (column_key texts) columns)) (key_before columns) (λ r s p q. ap is_lt (key_cmp texts columns kinds r s p q)) rows
+    (each_can texts columns rows can)

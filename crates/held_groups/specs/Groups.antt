@@ -38,19 +38,18 @@ column_slot texts c row = coded texts (column_value row c)
 abbrev pub column_key : List (List ℕ) → ColumnRef → Key FromRow
 column_key texts c = (false, column_slot texts c)
 
--- each column of a row has a kind of its own
-abbrev pub RowCanCode : List (List ℕ) → (ColumnRef → Kind) → List ColumnRef → FromRow → Type 0
-RowCanCode texts kind columns row = (c : ColumnRef) → Contains columns c → CanCode texts (kind c) (column_value row c)
+-- in a column of some rows stand values of one kind
+abbrev pub ColumnCanCode : List (List ℕ) → List FromRow → ColumnRef → Type 0
+ColumnCanCode texts rows c = (kind : Kind) × ((row : FromRow) → Contains rows row → CanCode texts kind (column_value row c))
 
-abbrev pub RowsCanCode : List (List ℕ) → (ColumnRef → Kind) → List ColumnRef → List FromRow → Type 0
-RowsCanCode texts kind columns rows = (row : FromRow) → Contains rows row → RowCanCode texts kind columns row
+abbrev pub RowsCanCode : List (List ℕ) → List ColumnRef → List FromRow → Type 0
+RowsCanCode texts columns rows = (c : ColumnRef) → Contains columns c → ColumnCanCode texts rows c
 
 -- a stable sort by the columns' slots is one by group key
 abbrev pub SortLaw : Type 0
 SortLaw =
-    (texts : List (List ℕ)) (kind : ColumnRef → Kind) (columns : List ColumnRef) (rows : List FromRow)
-    → RowsCanCode texts kind columns rows
-    → sorted_by (row_before (map (column_key texts) columns)) rows ≡ sorted_by (key_before columns) rows
+    (texts : List (List ℕ)) (columns : List ColumnRef) (rows : List FromRow)
+    → RowsCanCode texts columns rows → sorted_by (row_before (map (column_key texts) columns)) rows ≡ sorted_by (key_before columns) rows
 
 -- ---- groups
 
@@ -68,8 +67,8 @@ AreSame columns others = (c : ColumnRef) → Contains columns c ↔ Contains oth
 
 abbrev pub GroupLaw : Type 0
 GroupLaw =
-    (texts : List (List ℕ)) (kind : ColumnRef → Kind) (c : ColumnRef) (cs front behind : List ColumnRef) (rows : List FromRow)
-    → RowsCanCode texts kind (c ∷ cs) rows → AreSame (c ∷ cs) (front ++ behind)
+    (texts : List (List ℕ)) (c : ColumnRef) (cs front behind : List ColumnRef) (rows : List FromRow)
+    → RowsCanCode texts (c ∷ cs) rows → AreSame (c ∷ cs) (front ++ behind)
     → map (run_group (c ∷ cs)) (row_runs (run_slots texts front behind) (sorted_rows texts (c ∷ cs) rows)) ≡ groups_of (c ∷ cs) rows
 
 -- the rows of a run are among the rows
