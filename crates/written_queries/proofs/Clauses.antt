@@ -1,5 +1,5 @@
 -- The literals of the conditions and the items that typing accepts are as the grammar has them.
-use Rattle.std.proofs.Common.{◌≡◌, ℕ, Bool, true, not, ◌&&◌, List, [], ◌∷◌, ◌++◌, Option, Some, None, Ok, subst}
+use Rattle.std.proofs.Common.{◌≡◌, ℕ, true, not, List, [], ◌∷◌, Option, Some, None, Ok, subst}
 use Rattle.std.specs.Prelude.{All}
 use Rattle.std.specs.List.{list_all}
 use Rattle.std.specs.Option.{ForSome}
@@ -10,7 +10,6 @@ use Rattle.query_trees.specs.declared.clauses.SelectItem.{SelectItem}
 use Rattle.query_trees.specs.declared.clauses.SelectList.{SelectList}
 use Rattle.query_trees.specs.declared.clauses.SelectList.TheVariants as select
 use Rattle.typed_trees.specs.declared.kinds.Role.TheVariants.{Alone}
-use Rattle.typed_trees.specs.declared.typed.Aggregate.{Aggregate}
 use Rattle.typed_trees.specs.declared.typed.TypedExpr.{TypedExpr}
 use Rattle.typed_trees.specs.declared.typed.TypedExpr.TheVariants as e
 use Rattle.typed_trees.specs.Kinds.{is_truth}

@@ -1,10 +1,9 @@
 -- The literals of each form that typing gives are as the grammar has them, where those of its operands are, and its scale is at most 36.
-use Rattle.std.proofs.Common.{◌≡◌, ◌∙◌, ℕ, ℤ, pos, negsuc, ◌+◌, ◌*◌, ◌^◌, ◌≤◌, ◌<◌, ◌==◌, Bool, true, false, not, ◌&&◌, List, [], ◌∷◌, ◌++◌, length, map, max, Option, Some, None, Ok, refl, ap, subst, arith}
-use Rattle.std.specs.Prelude.{All, nat_le, nat_lt}
+use Rattle.std.proofs.Common.{◌≡◌, ◌∙◌, ℕ, ℤ, pos, negsuc, ◌+◌, ◌^◌, ◌≤◌, ◌<◌, ◌==◌, Bool, true, false, not, ◌&&◌, List, [], ◌∷◌, map, max, Ok, refl, subst, arith}
+use Rattle.std.specs.Prelude.{All, nat_le}
 use Rattle.std.specs.List.{list_all}
-use Rattle.std.specs.Option.{ForSome}
 use Rattle.std.proofs.lemmas.Bool.{and_from, and_parts, le-leb, leb-true, lt-ltb}
-use Rattle.std.proofs.lemmas.List.Elements.{All-nil, All-cons, All-head, All-tail, All-push}
+use Rattle.std.proofs.lemmas.List.Elements.{All-head, All-tail}
 use Rattle.std.proofs.lemmas.Bool.Decides.{nat_tests}
 use Rattle.control_vectors.specs.Slots.{fits_128}
 use Rattle.civil_days.specs.Dates.{in_range}
@@ -21,11 +20,8 @@ use Rattle.typed_trees.specs.declared.kinds.Kind.{Kind}
 use Rattle.typed_trees.specs.declared.kinds.Kind.TheVariants.{Number, Date, Text, Truth}
 use Rattle.typed_trees.specs.declared.kinds.Role.{Role}
 use Rattle.typed_trees.specs.declared.kinds.Role.TheVariants.{Side, Alone}
-use Rattle.typed_trees.specs.declared.typed.Aggregate.{Aggregate}
-use Rattle.typed_trees.specs.declared.typed.AggregateKind.TheVariants.{Count}
 use Rattle.typed_trees.specs.declared.typed.ColumnRef.{ColumnRef}
 use Rattle.typed_trees.specs.declared.typed.ColumnType.{ColumnType}
-use Rattle.typed_trees.specs.declared.typed.TypedExpr.{TypedExpr}
 use Rattle.typed_trees.specs.declared.typed.TypedExpr.TheVariants as e
 use Rattle.typed_trees.specs.Kinds.{kind_of, is_number, is_truth, compare, family_of, takes, makes}
 use Rattle.typed_trees.specs.Scales.{greatest, binary_scale}
@@ -38,7 +34,6 @@ use Rattle.query_types.specs.Expressions as t
 use Rattle.query_types.specs.Expressions.{values, scales}
 use Rattle.query_types.proofs.OutcomeLaws.{ok_same, then_ok, not_refused}
 use Rattle.expr_values.specs.Written.{fits_127, is_scale, is_written}
-use Rattle.written_queries.specs.Laws.{IsLiteral}
 use Rattle.written_queries.specs.Scales.{HasScales}
 use Rattle.written_queries.proofs.Columns.{named_scaled}
 use Rattle.written_queries.proofs.WrittenForms.{written_Number, written_Text, written_Date, written_Column, written_Aggregate, written_Signed, written_Not, written_Binary, written_Divide, written_Between, written_In, written_IsNull, written_Coalesce}

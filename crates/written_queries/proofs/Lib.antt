@@ -12,3 +12,5 @@ mod Trees
 mod Parts
 mod Clauses
 mod Queries
+mod Plans
+mod Lowerable

@@ -1,12 +1,11 @@
 -- The literals of an expression that is read are within bounds.
-use Rattle.std.proofs.Common.{◌≡◌, ℕ, ℤ, zero, suc, ◌≤◌, Bool, true, false, not, List, [], ◌∷◌, Option, Some, None, refl, arith}
+use Rattle.std.proofs.Common.{◌≡◌, ℕ, ℤ, zero, suc, ◌≤◌, Bool, true, false, not, Option, Some, None, refl}
 use Rattle.std.specs.List.{All}
-use Rattle.phrases.specs.Parsers.{◌>>=◌, pure, repeat}
+use Rattle.phrases.specs.Parsers.{◌>>=◌, pure}
 use Rattle.sql_read.specs.declared.kind.Kind.{Kind}
 use Rattle.sql_read.specs.declared.kind.Kind.TheVariants as k
 use Rattle.sql_read.specs.declared.token_list.Token.{Token}
 use Rattle.sql_read.specs.Lexis.{Bytes, max_integer}
-use Rattle.sql_read.specs.Numbers.{IsMeasured}
 use Rattle.sql_read.specs.Schema.{is}
 use Rattle.civil_days.specs.Dates.{in_range}
 use Rattle.query_trees.specs.declared.expr.AggregateKind.TheVariants.{Count}

@@ -1,5 +1,5 @@
 -- The literals of a query that is read and typed are as the grammar has them.
-use Rattle.std.proofs.Common.{◌≡◌, Bool, true, false, ◌&&◌, List, [], ◌∷◌, ◌++◌, length, Option, Some, None, Ok, refl, subst}
+use Rattle.std.proofs.Common.{◌≡◌, Bool, true, false, ◌&&◌, List, [], ◌∷◌, ◌++◌, length, Option, Some, None, Ok, subst}
 use Rattle.std.specs.Prelude.{All}
 use Rattle.std.specs.Option.{ForSome}
 use Rattle.std.proofs.lemmas.Bool.{and_parts}
@@ -9,7 +9,6 @@ use Rattle.query_trees.specs.declared.clauses.Join.{Join}
 use Rattle.query_trees.specs.declared.clauses.Source.{Source}
 use Rattle.query_trees.specs.declared.expr.Expr.{Expr}
 use Rattle.query_trees.specs.declared.query.Query.{Query}
-use Rattle.typed_trees.specs.declared.typed.Aggregate.{Aggregate}
 use Rattle.typed_trees.specs.declared.typed.ColumnRef.{ColumnRef}
 use Rattle.typed_trees.specs.declared.typed.PlanSource.{PlanSource}
 use Rattle.typed_trees.specs.declared.typed.TypedExpr.{TypedExpr}

@@ -1,5 +1,5 @@
 -- Steps of typing: what each gives, where the literals of the aggregates so far are as the grammar has them.
-use Rattle.std.proofs.Common.{◌≡◌, List, [], ◌∷◌, ◌++◌, Ok, subst}
+use Rattle.std.proofs.Common.{◌≡◌, List, Ok, subst}
 use Rattle.std.specs.Prelude.{All}
 use Rattle.std.specs.Option.{ForSome}
 use Rattle.typed_trees.specs.declared.typed.Aggregate.{Aggregate}

@@ -18,9 +18,7 @@ use Rattle.sql_read.specs.Numbers.{IsMeasured}
 use Rattle.sql_read.specs.Schema.{is}
 use Rattle.sql_read.specs.Tokens.{Tokens, tokens}
 use Rattle.sql_read.proofs.NumberLaws.{tokens_are_measured}
-use Rattle.query_trees.specs.declared.clauses.Alias.{Alias}
 use Rattle.query_trees.specs.declared.clauses.Direction.TheVariants.{Ascending, Descending}
-use Rattle.query_trees.specs.declared.clauses.Join.{Join}
 use Rattle.query_trees.specs.declared.clauses.SelectItem.{SelectItem}
 use Rattle.query_trees.specs.declared.clauses.SelectList.{SelectList}
 use Rattle.query_trees.specs.declared.clauses.SelectList.TheVariants as select

@@ -1,6 +1,6 @@
 -- The literals of every expression that typing accepts are as the grammar has them, by induction over the expression that is read.
-use Rattle.std.proofs.Common.{◌≡◌, ◌∙◌, ℕ, Bool, true, false, not, ◌&&◌, List, [], ◌∷◌, ◌++◌, length, map, Option, Some, None, Ok, refl, sym, ap, subst, arith}
-use Rattle.std.specs.Prelude.{All, nat_le}
+use Rattle.std.proofs.Common.{◌≡◌, ◌∙◌, ℕ, Bool, true, not, ◌&&◌, List, [], ◌∷◌, ◌++◌, length, map, Some, None, sym, subst, arith}
+use Rattle.std.specs.Prelude.{nat_le}
 use Rattle.std.specs.List.{list_all}
 use Rattle.std.proofs.lemmas.Bool.{and_parts}
 use Rattle.std.proofs.lemmas.List.Elements.{All-nil, All-push}
@@ -28,9 +28,9 @@ use Rattle.query_types.proofs.Typers.{form_typed}
 use Rattle.written_queries.specs.Bounds.{form_bounded, is_bounded}
 use Rattle.written_queries.specs.Laws.{IsLiteral}
 use Rattle.written_queries.specs.Scales.{HasScales}
-use Rattle.written_queries.proofs.BoundedForms.{Holds, of_form, opens, form_opens}
+use Rattle.written_queries.proofs.BoundedForms.{of_form, form_opens}
 use Rattle.written_queries.proofs.Forms.{Good, AreGood, number_good, date_good, text_good, column_good, aggregate_good, scale_folded, signed_good, negated_good, binary_good, divided_good, between_good, null_test_good, among_good, choice_good}
-use Rattle.written_queries.proofs.Steps.{HasLiterals, AreWritten, Makes, makes_same, makes_pure, makes_lift, makes_then}
+use Rattle.written_queries.proofs.Steps.{HasLiterals, Makes, makes_same, makes_pure, makes_lift, makes_then}
 
 -- what a typer gives is written, over every catalog of such scales
 pub record Sound (T : Typer) : Type 0 where

@@ -1,3 +1,4 @@
 pub mod Bounds
 pub mod Scales
 pub mod Laws
+pub mod Plans
