@@ -27,7 +27,7 @@ use Rattle.query_types.specs.Names.{Scope, standing}
 use Rattle.query_types.specs.Typing.{having}
 use Rattle.query_types.proofs.OutcomeLaws.{ok_same, then_ok, not_refused}
 use Rattle.written_queries.specs.Bounds.{is_bounded, item_bounded, list_bounded, optional_bounded}
-use Rattle.written_queries.specs.Laws.{IsLiteral}
+use Rattle.written_queries.specs.Laws.{IsAsWritten}
 use Rattle.written_queries.specs.Scales.{HasScales}
 use Rattle.written_queries.proofs.Columns.{IsScaledStar, stars_scaled}
 use Rattle.written_queries.proofs.Forms.{Good, found_good}
@@ -36,32 +36,32 @@ use Rattle.written_queries.proofs.Trees.{typed_sound}
 
 -- ---- conditions
 
-pub condition_makes : (s : Scope) (x : Expr) → HasScales s.defs → is_bounded x ≡ true → Makes IsLiteral (condition s x)
+pub condition_makes : (s : Scope) (x : Expr) → HasScales s.defs → is_bounded x ≡ true → Makes IsAsWritten (condition s x)
 unfolding condition
 condition_makes s x c h =
     makes_then ((typed_sound x h).makes s Alone c) (λ t g.
     makes_lift _ (λ v is.
     let y = not_refused (not (is_truth t.kind)) TypesDiffer x.at (Ok t.value) v is in
-    subst IsLiteral (ok_same t.value v y.1) g.written))
+    subst IsAsWritten (ok_same t.value v y.1) g.written))
 
 abbrev pub IsHaving : Option TypedExpr → Type 0
-IsHaving o = ForSome o IsLiteral
+IsHaving o = ForSome o IsAsWritten
 
 pub having_makes : (s : Scope) (x : Option Expr) → HasScales s.defs → optional_bounded x ≡ true → Makes IsHaving (having s x)
 having_makes s None c h = makes_pure None (λ v none. absurd (cc))
-having_makes s (Some x) c h = makes_then (condition_makes s x c h) (λ v g. makes_pure (Some v) (λ w same. subst IsLiteral (some_same v w same) g))
+having_makes s (Some x) c h = makes_then (condition_makes s x c h) (λ v g. makes_pure (Some v) (λ w same. subst IsAsWritten (some_same v w same) g))
 
 -- ---- the select list
 
 abbrev pub IsShown : Shown → Type 0
-IsShown shown = All IsLiteral shown.items
+IsShown shown = All IsAsWritten shown.items
 
 star_shown : (s : Scope) (at : ℕ) (shown more : Shown) (f : Starred) → IsScaledStar f → IsShown shown → star_item s at shown f ≡ Ok more → IsShown more
 unfolding star_item
 star_shown s at shown more f scaled h is =
     let free = not_refused (is_full shown) TooManyItems at _ more is in
     let y = then_ok (standing s at (i.found_starred f)) (λ (g : Found). Ok (with_item shown (e.Column f.column f.type_) f.name)) more free.1 in
-    subst IsShown (ok_same (with_item shown (e.Column f.column f.type_) f.name) more y.2) (All-push IsLiteral shown.items (e.Column f.column f.type_) h (found_good f.column f.type_ scaled).written)
+    subst IsShown (ok_same (with_item shown (e.Column f.column f.type_) f.name) more y.2) (All-push IsAsWritten shown.items (e.Column f.column f.type_) h (found_good f.column f.type_ scaled).written)
 
 stars_shown : (s : Scope) (at : ℕ) (fs : List Starred) (shown more : Shown) → All IsScaledStar fs → IsShown shown → star_items s at shown fs ≡ Ok more → IsShown more
 stars_shown s at [] shown more all h is = subst IsShown (ok_same shown more is) h
@@ -73,7 +73,7 @@ value_shown : (shown more : Shown) (x : SelectItem) (t : Typed) → IsShown show
 unfolding with_value
 value_shown shown more x t h g is =
     let y = not_refused (is_truth t.kind) TypesDiffer x.value.at (Ok (with_item shown t.value (i.name_of shown x))) more is in
-    subst IsShown (ok_same (with_item shown t.value (i.name_of shown x)) more y.1) (All-push IsLiteral shown.items t.value h g.written)
+    subst IsShown (ok_same (with_item shown t.value (i.name_of shown x)) more y.1) (All-push IsAsWritten shown.items t.value h g.written)
 
 item_makes : (s : Scope) (shown : Shown) (x : SelectItem) → HasScales s.defs → item_bounded x ≡ true → IsShown shown → Makes IsShown (item s shown x)
 unfolding item
@@ -91,5 +91,5 @@ items_make s (x ∷ xs) shown c bounded h =
 
 pub list_makes : (s : Scope) (list : SelectList) → HasScales s.defs → list_bounded list ≡ true → Makes IsShown (shown_of s list)
 list_makes s (select.All star) c bounded =
-    makes_lift (star_items s star nothing_shown (every_column s.defs 0 s.tables)) (λ more is. stars_shown s star (every_column s.defs 0 s.tables) nothing_shown more (stars_scaled s.defs c 0 s.tables) (All-nil IsLiteral) is)
-list_makes s (select.Items xs) c bounded = items_make s xs nothing_shown c bounded (All-nil IsLiteral)
+    makes_lift (star_items s star nothing_shown (every_column s.defs 0 s.tables)) (λ more is. stars_shown s star (every_column s.defs 0 s.tables) nothing_shown more (stars_scaled s.defs c 0 s.tables) (All-nil IsAsWritten) is)
+list_makes s (select.Items xs) c bounded = items_make s xs nothing_shown c bounded (All-nil IsAsWritten)

@@ -1,5 +1,5 @@
 -- The days of dates are of the years 1 to 9999.
-use Rattle.std.proofs.Common.{◌≡◌, ℤ, pos, negsuc, ℕ, List, Bool, true, false, Option, Some, None, refl, arith}
+use Rattle.std.proofs.Common.{◌≡◌, ℤ, pos, negsuc, ℕ, List, true, false, Option, Some, None, refl, arith}
 use Rattle.std.specs.Prelude.{int_le, nat_le, is_none, unwrap_or}
 use Rattle.std.proofs.lemmas.Bool.{and_parts}
 use Rattle.std.proofs.lemmas.Bool.Decides.{nat_tests}

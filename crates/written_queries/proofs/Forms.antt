@@ -1,8 +1,8 @@
 -- The literals of each form that typing gives are as the grammar has them, where those of its operands are, and its scale is at most 36.
-use Rattle.std.proofs.Common.{◌≡◌, ◌∙◌, ℕ, ℤ, pos, negsuc, ◌+◌, ◌^◌, ◌≤◌, ◌<◌, ◌==◌, Bool, true, false, not, ◌&&◌, List, [], ◌∷◌, map, max, Ok, refl, subst, arith}
+use Rattle.std.proofs.Common.{◌≡◌, ◌∙◌, ℕ, ℤ, pos, negsuc, ◌+◌, ◌^◌, ◌≤◌, ◌<◌, ◌==◌, Bool, true, not, ◌&&◌, List, [], ◌∷◌, map, max, Ok, refl, subst, arith}
 use Rattle.std.specs.Prelude.{All, nat_le}
 use Rattle.std.specs.List.{list_all}
-use Rattle.std.proofs.lemmas.Bool.{and_from, and_parts, le-leb, leb-true, lt-ltb}
+use Rattle.std.proofs.lemmas.Bool.{not-false, and_from, and_parts, le-leb, leb-true, lt-ltb}
 use Rattle.std.proofs.lemmas.List.Elements.{All-head, All-tail}
 use Rattle.std.proofs.lemmas.Bool.Decides.{nat_tests}
 use Rattle.control_vectors.specs.Slots.{fits_128}
@@ -44,10 +44,6 @@ pub record Good (x : Typed) : Type 0 where
 
 abbrev pub AreGood : List Typed → Type 0
 AreGood ts = All Good ts
-
-not_false : (b : Bool) → not b ≡ false → b ≡ true
-not_false true h = refl
-not_false false h = absurd (cc)
 
 -- ---- bounds
 
@@ -145,7 +141,7 @@ binary_good o at a b x h g is =
     let z = not_refused (not (scale_fits o a.scale b.scale)) ScaleTooLarge at _ x y.1 in
     subst Good (ok_same (t.typed_as (makes (family_of o)) (binary_scale o a.scale b.scale) (e.Binary o a.value b.value)) x z.1) (record {
       written = written_Binary o a.value b.value ∙ and_from (is_written a.value) (is_written b.value) h.written g.written;
-      scale = operator_scale o a.scale b.scale h.scale g.scale (not_false (scale_fits o a.scale b.scale) z.0);
+      scale = operator_scale o a.scale b.scale h.scale g.scale (not-false (scale_fits o a.scale b.scale) z.0);
     })
 
 pub divided_good : (at : ℕ) (a : Typed) (d : Divisor) (x : Typed) → nat_le d.value max_integer ≡ true → Good a → t.divided at a d ≡ Ok x → Good x

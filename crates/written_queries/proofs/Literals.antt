@@ -1,6 +1,7 @@
 -- The literals of an expression that is read are within bounds.
-use Rattle.std.proofs.Common.{◌≡◌, ℕ, ℤ, zero, suc, ◌≤◌, Bool, true, false, not, Option, Some, None, refl}
+use Rattle.std.proofs.Common.{◌≡◌, ℕ, ℤ, zero, suc, ◌≤◌, true, Option, Some, None}
 use Rattle.std.specs.List.{All}
+use Rattle.std.proofs.lemmas.Bool.{not-false}
 use Rattle.phrases.specs.Parsers.{◌>>=◌, pure}
 use Rattle.sql_read.specs.declared.kind.Kind.{Kind}
 use Rattle.sql_read.specs.declared.kind.Kind.TheVariants as k
@@ -65,13 +66,9 @@ any_span : (text : Bytes) → Keeps Any (e.span_text all text)
 unfolding e.span_text
 any_span text = keeps_both (e.sound NoSpan (is k.Quoted) (no_span all text)) (keeps_sound NoSpan (is k.Quoted) (no_span all text)) (λ t h. any_value (span_at text t))
 
-not_not : (b : Bool) → not b ≡ false → b ≡ true
-not_not true h = refl
-not_not false h = absurd (cc)
-
 keeps_last_day : (day : ℤ) → Keeps IsDay (e.last_day all day)
 unfolding e.last_day
-keeps_last_day day = keeps_both (e.sound OutOfRange (is k.Day) (leaves all day)) (keeps_sound OutOfRange (is k.Day) (leaves all day)) (λ t h. keeps_value IsDay day (not_not (in_range day) h))
+keeps_last_day day = keeps_both (e.sound OutOfRange (is k.Day) (leaves all day)) (keeps_sound OutOfRange (is k.Day) (leaves all day)) (λ t h. keeps_value IsDay day (not-false (in_range day) h))
 
 keeps_step : (text : Bytes) (day : ℤ) → Keeps IsDay (e.step all text day)
 unfolding e.step

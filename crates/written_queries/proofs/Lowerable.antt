@@ -21,34 +21,34 @@ use Rattle.rel_plan.specs.Prunes.{pruned}
 use Rattle.rel_plan.specs.Pushes.{pushed}
 use Rattle.read_queries.specs.Laws.{AnswerLaw}
 use Rattle.plan_laws.specs.WellFormed.{query_of, WellFormedLaws}
-use Rattle.written_queries.specs.Laws.{IsLiteral}
+use Rattle.written_queries.specs.Laws.{IsAsWritten}
 use Rattle.written_queries.specs.Plans.{PlanWritten, IsLowerablePlan, LowerableLaw}
 
-apart : (xs ys : List TypedExpr) → All IsLiteral (xs ++ ys) → All IsLiteral xs × All IsLiteral ys
-apart [] ys h = (All-nil IsLiteral, h)
+apart : (xs ys : List TypedExpr) → All IsAsWritten (xs ++ ys) → All IsAsWritten xs × All IsAsWritten ys
+apart [] ys h = (All-nil IsAsWritten, h)
 apart (x ∷ xs) ys h =
-    let rest = apart xs ys (All-tail IsLiteral x (xs ++ ys) h) in
-    (All-cons IsLiteral x xs (All-head IsLiteral x (xs ++ ys) h) rest.0, rest.1)
+    let rest = apart xs ys (All-tail IsAsWritten x (xs ++ ys) h) in
+    (All-cons IsAsWritten x xs (All-head IsAsWritten x (xs ++ ys) h) rest.0, rest.1)
 
 module _ (at : ℕ → Option DataType) (allowed : Kind → Bool) where
-  lower : (e : TypedExpr) → HasType at allowed e → IsLiteral e → IsLowerable at e
+  lower : (e : TypedExpr) → HasType at allowed e → IsAsWritten e → IsLowerable at e
   lower e h g = record { type = h.type; is = h.is; sides = h.sides; written = g }
 
-  lower_all : (es : List TypedExpr) → All (HasType at allowed) es → All IsLiteral es → All (IsLowerable at) es
+  lower_all : (es : List TypedExpr) → All (HasType at allowed) es → All IsAsWritten es → All (IsLowerable at) es
   lower_all [] h g = All-nil (IsLowerable at)
   lower_all (e ∷ es) h g =
-      All-cons (IsLowerable at) e es (lower e (All-head (HasType at allowed) e es h) (All-head IsLiteral e es g)) (lower_all es (All-tail (HasType at allowed) e es h) (All-tail IsLiteral e es g))
+      All-cons (IsLowerable at) e es (lower e (All-head (HasType at allowed) e es h) (All-head IsAsWritten e es g)) (lower_all es (All-tail (HasType at allowed) e es h) (All-tail IsAsWritten e es g))
 
-  lower_some : (o : Option TypedExpr) → ForSome o (HasType at allowed) → All IsLiteral (option_to_list o) → ForSome o (IsLowerable at)
+  lower_some : (o : Option TypedExpr) → ForSome o (HasType at allowed) → All IsAsWritten (option_to_list o) → ForSome o (IsLowerable at)
   lower_some None h g = λ e none. absurd (cc)
-  lower_some (Some x) h g = λ e same. subst (IsLowerable at) (some_same x e same) (lower x (h x refl) (All-head IsLiteral x [] g))
+  lower_some (Some x) h g = λ e same. subst (IsLowerable at) (some_same x e same) (lower x (h x refl) (All-head IsAsWritten x [] g))
 
 -- ---- the conditions of sources
 
 abbrev Lowers : PlanSource → Type 0
 Lowers s = All (IsLowerable no_aggregate) s.filter
 
-sources_lower : (ss : List PlanSource) → All IsSource ss → All IsLiteral (conditions_of_sources ss) → All Lowers ss
+sources_lower : (ss : List PlanSource) → All IsSource ss → All IsAsWritten (conditions_of_sources ss) → All Lowers ss
 sources_lower [] h g = All-nil Lowers
 sources_lower (s ∷ ss) h g =
     let both = apart s.filter (conditions_of_sources ss) g in
@@ -60,16 +60,16 @@ argument_typed : (kind : AggregateKind) (o : Option DataType) → IsSome (option
 argument_typed kind None h = absurd (cc)
 argument_typed kind (Some t) h = (t, refl)
 
-argument_lowers : (kind : AggregateKind) (o : Option TypedExpr) → IsSome (argument_type kind o) → ForSome o (λ e. stands e Alone ≡ true) → All IsLiteral (option_to_list o) → ForSome o (IsLowerable no_aggregate)
+argument_lowers : (kind : AggregateKind) (o : Option TypedExpr) → IsSome (argument_type kind o) → ForSome o (λ e. stands e Alone ≡ true) → All IsAsWritten (option_to_list o) → ForSome o (IsLowerable no_aggregate)
 argument_lowers kind None h sides g = λ e none. absurd (cc)
 argument_lowers kind (Some x) h sides g =
     let t = argument_typed kind (type_of no_aggregate x) h in
-    λ e same. subst (IsLowerable no_aggregate) (some_same x e same) (record { type = t.0; is = t.1; sides = sides x refl; written = All-head IsLiteral x [] g })
+    λ e same. subst (IsLowerable no_aggregate) (some_same x e same) (record { type = t.0; is = t.1; sides = sides x refl; written = All-head IsAsWritten x [] g })
 
 abbrev Folds : Aggregate → Type 0
 Folds a = ForSome a.argument (IsLowerable no_aggregate)
 
-aggregates_lower : (more : List Aggregate) → All IsAggregate more → All IsLiteral (arguments_of more) → All Folds more
+aggregates_lower : (more : List Aggregate) → All IsAggregate more → All IsAsWritten (arguments_of more) → All Folds more
 aggregates_lower [] h g = All-nil Folds
 aggregates_lower (a ∷ more) h g =
     let both = apart (option_to_list a.argument) (arguments_of more) g in
@@ -78,7 +78,7 @@ aggregates_lower (a ∷ more) h g =
 
 -- ---- plans
 
-plan_lowers : (p : RelPlan) → IsTyped (query_of p) → All IsLiteral (expressions p) → IsLowerablePlan p
+plan_lowers : (p : RelPlan) → IsTyped (query_of p) → All IsAsWritten (expressions p) → IsLowerablePlan p
 plan_lowers p h g =
     let last = option_to_list p.having ++ p.items in
     let x = apart p.filter (conditions_of_sources p.sources ++ (arguments_of p.aggregates ++ last)) g in

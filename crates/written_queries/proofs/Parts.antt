@@ -11,15 +11,15 @@ use Rattle.typed_trees.specs.declared.typed.TypedExpr.TheVariants.{rolls-Binary}
 use Rattle.query_types.specs.Conjuncts.{Parts, form_parts, joined_parts, parts, is_and}
 use Rattle.query_types.proofs.Parts.{and-parts, binary-alone}
 use Rattle.expr_values.specs.Written.{is_written}
-use Rattle.written_queries.specs.Laws.{IsLiteral}
+use Rattle.written_queries.specs.Laws.{IsAsWritten}
 use Rattle.written_queries.proofs.WrittenForms.{written_roll}
 
 abbrev IsParted : TypedExpr → Type 0
-IsParted c = IsLiteral c → All IsLiteral (parts c)
+IsParted c = IsAsWritten c → All IsAsWritten (parts c)
 
 -- what AND does not join is its own only part
 single : (c : TypedExpr) → parts c ≡ c ∷ [] → IsParted c
-single c one h = All-same IsLiteral (parts c) (c ∷ []) one (All-cons IsLiteral c [] h (All-nil IsLiteral))
+single c one h = All-same IsAsWritten (parts c) (c ∷ []) one (All-cons IsAsWritten c [] h (All-nil IsAsWritten))
 
 alone : (d : TypedExpr-F TypedExpr) → joined_parts (roll-TypedExpr d) ≡ None → IsParted (roll-TypedExpr d)
 unfolding parts
@@ -28,11 +28,11 @@ alone d none = single (roll-TypedExpr d) (ap (λ p. unwrap_or p (roll-TypedExpr 
 binary : (o : BinaryOp) (x y : TypedExpr) → IsParted x → IsParted y → IsParted (roll-TypedExpr (TypedExpr-F.Binary o x y))
 binary o x y h g whole = by (is_and o) refl
   where
-    by : (b : Bool) → is_and o ≡ b → All IsLiteral (parts (roll-TypedExpr (TypedExpr-F.Binary o x y)))
+    by : (b : Bool) → is_and o ≡ b → All IsAsWritten (parts (roll-TypedExpr (TypedExpr-F.Binary o x y)))
     by true is =
         let both = and_parts (is_written x) (is_written y) (sym (written_roll (TypedExpr-F.Binary o x y)) ∙ whole) in
-        All-same IsLiteral (parts (roll-TypedExpr (TypedExpr-F.Binary o x y))) (parts x ++ parts y) (and-parts (roll-TypedExpr (TypedExpr-F.Binary o x y)) o x y (rolls-Binary o x y) is)
-        (All-append IsLiteral (parts x) (parts y) (h both.0) (g both.1))
+        All-same IsAsWritten (parts (roll-TypedExpr (TypedExpr-F.Binary o x y))) (parts x ++ parts y) (and-parts (roll-TypedExpr (TypedExpr-F.Binary o x y)) o x y (rolls-Binary o x y) is)
+        (All-append IsAsWritten (parts x) (parts y) (h both.0) (g both.1))
     by false is =
         let same = rolls-Binary o x y in
         single (roll-TypedExpr (TypedExpr-F.Binary o x y)) (binary-alone (roll-TypedExpr (TypedExpr-F.Binary o x y)) o x y same is ∙ ap (λ (c : TypedExpr). c ∷ []) (sym same)) whole
@@ -53,5 +53,5 @@ by_layer (TypedExpr-F.In p x ys) = alone (TypedExpr-F.In p x.0 (map (λ y. y.0) 
 by_layer (TypedExpr-F.IsNull p x) = alone (TypedExpr-F.IsNull p x.0) (para-roll-TypedExpr Parts form_parts (TypedExpr-F.IsNull p x.0))
 by_layer (TypedExpr-F.Coalesce x ys) = alone (TypedExpr-F.Coalesce x.0 (map (λ y. y.0) ys)) (para-roll-TypedExpr Parts form_parts (TypedExpr-F.Coalesce x.0 (map (λ y. y.0) ys)))
 
-pub parts_written : (c : TypedExpr) → IsLiteral c → All IsLiteral (parts c)
+pub parts_written : (c : TypedExpr) → IsAsWritten c → All IsAsWritten (parts c)
 parts_written = ind-TypedExpr IsParted (λ x y is. subst (λ z. IsParted (roll-TypedExpr z)) is (by_layer y))

@@ -13,7 +13,7 @@ use Rattle.rel_plan.specs.Plans.{conditions_of_sources, arguments_of, expression
 use Rattle.rel_plan.specs.Prunes.{pruned}
 use Rattle.rel_plan.specs.Pushes.{pushed}
 use Rattle.plan_laws.specs.Sizes.{SizeLaws}
-use Rattle.written_queries.specs.Laws.{IsLiteral, IsWritten, WrittenLaw}
+use Rattle.written_queries.specs.Laws.{IsAsWritten, IsWritten, WrittenLaw}
 use Rattle.written_queries.specs.Plans.{PlanWritten}
 
 -- ---- what is written weighs nothing
@@ -25,48 +25,48 @@ weight_by false = 1
 abbrev weight : TypedExpr → ℕ
 weight e = weight_by (is_written e)
 
-all_weigh : (es : List TypedExpr) → All IsLiteral es → sum_by weight es ≡ 0
+all_weigh : (es : List TypedExpr) → All IsAsWritten es → sum_by weight es ≡ 0
 all_weigh [] h = refl
 all_weigh (e ∷ es) h =
-    let one : weight e ≡ 0 = ap weight_by (All-head IsLiteral e es h) in
-    omega (arith, sum_by-cons weight e es, one, all_weigh es (All-tail IsLiteral e es h))
+    let one : weight e ≡ 0 = ap weight_by (All-head IsAsWritten e es h) in
+    omega (arith, sum_by-cons weight e es, one, all_weigh es (All-tail IsAsWritten e es h))
 
 weightless : (b : Bool) → weight_by b ≡ 0 → b ≡ true
 weightless true h = refl
 weightless false h = absurd (omega (arith, h))
 
-none_weigh : (es : List TypedExpr) → sum_by weight es ≡ 0 → All IsLiteral es
-none_weigh [] h = All-nil IsLiteral
+none_weigh : (es : List TypedExpr) → sum_by weight es ≡ 0 → All IsAsWritten es
+none_weigh [] h = All-nil IsAsWritten
 none_weigh (e ∷ es) h =
     let sum = sum_by-cons weight e es in
     let one : weight e ≡ 0 = omega (arith, sum, h) in
     let rest : sum_by weight es ≡ 0 = omega (arith, sum, h) in
-    All-cons IsLiteral e es (weightless (is_written e) one) (none_weigh es rest)
+    All-cons IsAsWritten e es (weightless (is_written e) one) (none_weigh es rest)
 
 -- ---- the plan of a query
 
-conditions : (ss : List PlanSource) → All (λ s. All IsLiteral s.filter) ss → All IsLiteral (conditions_of_sources ss)
-conditions [] h = All-nil IsLiteral
+conditions : (ss : List PlanSource) → All (λ s. All IsAsWritten s.filter) ss → All IsAsWritten (conditions_of_sources ss)
+conditions [] h = All-nil IsAsWritten
 conditions (s ∷ ss) h =
-    All-append IsLiteral s.filter (conditions_of_sources ss) (All-head (λ (x : PlanSource). All IsLiteral x.filter) s ss h) (conditions ss (All-tail (λ (x : PlanSource). All IsLiteral x.filter) s ss h))
+    All-append IsAsWritten s.filter (conditions_of_sources ss) (All-head (λ (x : PlanSource). All IsAsWritten x.filter) s ss h) (conditions ss (All-tail (λ (x : PlanSource). All IsAsWritten x.filter) s ss h))
 
-optional : (o : Option TypedExpr) → ForSome o IsLiteral → All IsLiteral (option_to_list o)
-optional None h = All-nil IsLiteral
-optional (Some e) h = All-cons IsLiteral e [] (h e refl) (All-nil IsLiteral)
+optional : (o : Option TypedExpr) → ForSome o IsAsWritten → All IsAsWritten (option_to_list o)
+optional None h = All-nil IsAsWritten
+optional (Some e) h = All-cons IsAsWritten e [] (h e refl) (All-nil IsAsWritten)
 
-arguments : (more : List Aggregate) → All (λ a. ForSome a.argument IsLiteral) more → All IsLiteral (arguments_of more)
-arguments [] h = All-nil IsLiteral
+arguments : (more : List Aggregate) → All (λ a. ForSome a.argument IsAsWritten) more → All IsAsWritten (arguments_of more)
+arguments [] h = All-nil IsAsWritten
 arguments (a ∷ more) h =
-    All-append IsLiteral (option_to_list a.argument) (arguments_of more) (optional a.argument (All-head (λ (x : Aggregate). ForSome x.argument IsLiteral) a more h))
-    (arguments more (All-tail (λ (x : Aggregate). ForSome x.argument IsLiteral) a more h))
+    All-append IsAsWritten (option_to_list a.argument) (arguments_of more) (optional a.argument (All-head (λ (x : Aggregate). ForSome x.argument IsAsWritten) a more h))
+    (arguments more (All-tail (λ (x : Aggregate). ForSome x.argument IsAsWritten) a more h))
 
-all_written : (t : TypedQuery) → IsWritten t → All IsLiteral (expressions (plan_of t))
+all_written : (t : TypedQuery) → IsWritten t → All IsAsWritten (expressions (plan_of t))
 all_written t h =
     let last = option_to_list t.having ++ t.items in
-    All-append IsLiteral t.filter (conditions_of_sources t.sources ++ (arguments_of t.aggregates ++ last)) h.filter
-    (All-append IsLiteral (conditions_of_sources t.sources) (arguments_of t.aggregates ++ last) (conditions t.sources h.sources)
-    (All-append IsLiteral (arguments_of t.aggregates) last (arguments t.aggregates h.aggregates)
-    (All-append IsLiteral (option_to_list t.having) t.items (optional t.having h.having) h.items)))
+    All-append IsAsWritten t.filter (conditions_of_sources t.sources ++ (arguments_of t.aggregates ++ last)) h.filter
+    (All-append IsAsWritten (conditions_of_sources t.sources) (arguments_of t.aggregates ++ last) (conditions t.sources h.sources)
+    (All-append IsAsWritten (arguments_of t.aggregates) last (arguments t.aggregates h.aggregates)
+    (All-append IsAsWritten (option_to_list t.having) t.items (optional t.having h.having) h.items)))
 
 pub plan_written : WrittenLaw → SizeLaws → PlanWritten
 plan_written written sizes text defs q t read scales typed =

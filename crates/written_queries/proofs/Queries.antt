@@ -26,7 +26,7 @@ use Rattle.query_types.specs.Sources.{opened, link, source_of, with_table, with_
 use Rattle.query_types.specs.Typing.{filter, having, scope_of, answered_with, answer, query_of, typed_over, typed_query}
 use Rattle.query_types.proofs.OutcomeLaws.{ok_same, then_ok}
 use Rattle.written_queries.specs.Bounds.{list_bounded, optional_bounded, IsBounded, BoundedLaw}
-use Rattle.written_queries.specs.Laws.{IsLiteral, IsWritten, WrittenLaw}
+use Rattle.written_queries.specs.Laws.{IsAsWritten, IsWritten, WrittenLaw}
 use Rattle.written_queries.specs.Scales.{HasScales}
 use Rattle.written_queries.proofs.Clauses.{condition_makes, having_makes, list_makes}
 use Rattle.written_queries.proofs.Parts.{parts_written}
@@ -35,7 +35,7 @@ use Rattle.written_queries.proofs.Steps.{HasLiterals, AreWritten}
 -- ---- FROM: its tables have no conditions of their own
 
 abbrev IsBare : PlanSource → Type 0
-IsBare s = All IsLiteral s.filter
+IsBare s = All IsAsWritten s.filter
 
 abbrev AreBare : Tables → Type 0
 AreBare f = All IsBare f.sources
@@ -45,7 +45,7 @@ unfolding with_join
 joined defs f g j h is =
     let t = then_ok (opened defs f.called j.table) _ g is in
     let l = then_ok (link defs (f.called ++ t.0 ∷ []) (length f.called) t.0.table j.kind) _ g t.2 in
-    subst AreBare (ok_same (with_table defs f t.0 l.0) g l.2) (All-push IsBare f.sources (source_of defs t.0.table l.0) h (All-nil IsLiteral))
+    subst AreBare (ok_same (with_table defs f t.0 l.0) g l.2) (All-push IsBare f.sources (source_of defs t.0.table l.0) h (All-nil IsAsWritten))
 
 all_joined : (defs : List TableDef) (js : List Join) (f g : Tables) → AreBare f → with_joins defs f js ≡ Ok g → AreBare g
 all_joined defs [] f g h is = subst AreBare (ok_same f g is) h
@@ -58,7 +58,7 @@ unfolding first
 alone defs s f is =
     let t = then_ok (opened defs [] s.first) _ f is in
     let none : Tables = record { called = []; sources = [] } in
-    subst AreBare (ok_same (with_table defs none t.0 None) f t.2) (All-push IsBare [] (source_of defs t.0.table None) (All-nil IsBare) (All-nil IsLiteral))
+    subst AreBare (ok_same (with_table defs none t.0 None) f t.2) (All-push IsBare [] (source_of defs t.0.table None) (All-nil IsBare) (All-nil IsAsWritten))
 
 tables_bare : (defs : List TableDef) (s : Source) (f : Tables) → tables_of defs s ≡ Ok f → AreBare f
 unfolding tables_of
@@ -68,20 +68,20 @@ tables_bare defs s f is =
 
 -- ---- WHERE
 
-where_parts : (defs : List TableDef) (tables : List Called) (x : Option Expr) (ps : List TypedExpr) → HasScales defs → optional_bounded x ≡ true → filter (on_rows defs tables) x ≡ Ok ps → All IsLiteral ps
-where_parts defs tables None ps c bounded is = subst (All IsLiteral) (ok_same [] ps is) (All-nil IsLiteral)
+where_parts : (defs : List TableDef) (tables : List Called) (x : Option Expr) (ps : List TypedExpr) → HasScales defs → optional_bounded x ≡ true → filter (on_rows defs tables) x ≡ Ok ps → All IsAsWritten ps
+where_parts defs tables None ps c bounded is = subst (All IsAsWritten) (ok_same [] ps is) (All-nil IsAsWritten)
 where_parts defs tables (Some x) ps c bounded is =
     let s = on_rows defs tables in
     let r = then_ok (condition s x []) (λ r. Ok (parts r.0)) ps is in
     let h = ((condition_makes s x c bounded).gives [] r.0.1 r.0.0 (All-nil HasLiterals) r.1).0 in
-    subst (All IsLiteral) (ok_same (parts r.0.0) ps r.2) (parts_written r.0.0 h)
+    subst (All IsAsWritten) (ok_same (parts r.0.0) ps r.2) (parts_written r.0.0 h)
 
 -- ---- the items and HAVING
 
 record IsAnswer (a : Answered) : Type 0 where
   aggregates : AreWritten a.aggregates
-  having : ForSome a.having IsLiteral
-  items : All IsLiteral a.shown.items
+  having : ForSome a.having IsAsWritten
+  items : All IsAsWritten a.shown.items
 
 answered : (s : Scope) (q : Query) (a : Answered) → HasScales s.defs → list_bounded q.list ≡ true → optional_bounded q.having ≡ true → answer s q ≡ Ok a → IsAnswer a
 unfolding answer

@@ -5,10 +5,10 @@ use Rattle.std.specs.Option.{ForSome}
 use Rattle.typed_trees.specs.declared.typed.Aggregate.{Aggregate}
 use Rattle.query_types.specs.Outcomes.{Outcome, Collecting, ◌>>=◌, pure, lift}
 use Rattle.query_types.proofs.OutcomeLaws.{then_ok, both_same}
-use Rattle.written_queries.specs.Laws.{IsLiteral}
+use Rattle.written_queries.specs.Laws.{IsAsWritten}
 
 abbrev pub HasLiterals : Aggregate → Type 0
-HasLiterals a = ForSome a.argument IsLiteral
+HasLiterals a = ForSome a.argument IsAsWritten
 
 abbrev pub AreWritten : List Aggregate → Type 0
 AreWritten l = All HasLiterals l

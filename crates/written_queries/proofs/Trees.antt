@@ -26,7 +26,7 @@ use Rattle.query_types.specs.Names.{Scope, inside}
 use Rattle.query_types.proofs.OutcomeLaws.{not_refused}
 use Rattle.query_types.proofs.Typers.{form_typed}
 use Rattle.written_queries.specs.Bounds.{form_bounded, is_bounded}
-use Rattle.written_queries.specs.Laws.{IsLiteral}
+use Rattle.written_queries.specs.Laws.{IsAsWritten}
 use Rattle.written_queries.specs.Scales.{HasScales}
 use Rattle.written_queries.proofs.BoundedForms.{of_form, form_opens}
 use Rattle.written_queries.proofs.Forms.{Good, AreGood, number_good, date_good, text_good, column_good, aggregate_good, scale_folded, signed_good, negated_good, binary_good, divided_good, between_good, null_test_good, among_good, choice_good}
@@ -60,7 +60,7 @@ folded_makes level of at b h = record {
       let z = not_refused (is_row level) NestedAggregate at (t.met (t.kind_folded of b.kind) scale a l) (x, m) y.1 in
       makes_same Good (t.typed_as (t.kind_folded of b.kind) scale (e.Aggregate (length l) scale)) x (l ++ a ∷ []) m
       (aggregate_good (t.kind_folded of b.kind) (length l) scale (scale_folded of b.scale h.scale))
-      (All-push HasLiterals l a w (λ c same. subst IsLiteral (some_same b.value c same) h.written)) z.1;
+      (All-push HasLiterals l a w (λ c same. subst IsAsWritten (some_same b.value c same) h.written)) z.1;
 }
 
 -- ---- lists of operands

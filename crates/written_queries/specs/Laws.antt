@@ -12,16 +12,16 @@ use Rattle.query_types.specs.Typing.{typed_query}
 use Rattle.expr_values.specs.Written.{is_written}
 use Rattle.written_queries.specs.Scales.{HasScales}
 
-abbrev pub IsLiteral : TypedExpr → Type 0
-IsLiteral e = is_written e ≡ true
+abbrev pub IsAsWritten : TypedExpr → Type 0
+IsAsWritten e = is_written e ≡ true
 
 -- the literals of each expression are as the grammar has them
 pub record IsWritten (t : TypedQuery) : Type 0 where
-  pub sources : All (λ s. All IsLiteral s.filter) t.sources
-  pub filter : All IsLiteral t.filter
-  pub aggregates : All (λ a. ForSome a.argument IsLiteral) t.aggregates
-  pub having : ForSome t.having IsLiteral
-  pub items : All IsLiteral t.items
+  pub sources : All (λ s. All IsAsWritten s.filter) t.sources
+  pub filter : All IsAsWritten t.filter
+  pub aggregates : All (λ a. ForSome a.argument IsAsWritten) t.aggregates
+  pub having : ForSome t.having IsAsWritten
+  pub items : All IsAsWritten t.items
 
 -- so it is in every query that is read and typed
 abbrev pub WrittenLaw : Type 0

@@ -15,13 +15,13 @@ use Rattle.rel_plan.specs.Plans.{expressions, plan_of}
 use Rattle.rel_plan.specs.Prunes.{pruned}
 use Rattle.rel_plan.specs.Pushes.{pushed}
 use Rattle.plan_laws.specs.WellFormed.{IsWellFormed}
-use Rattle.written_queries.specs.Laws.{IsLiteral}
+use Rattle.written_queries.specs.Laws.{IsAsWritten}
 use Rattle.written_queries.specs.Scales.{HasScales}
 
 -- the literals of the plan that is made of a query that is read and typed are as the grammar has them
 abbrev pub PlanWritten : Type 0
 PlanWritten =
-    (text : Bytes) (defs : List TableDef) (q : Query) (t : TypedQuery) → query_of text ≡ Ok q → HasScales defs → typed_query q defs ≡ Ok t → All IsLiteral (expressions (pruned (pushed (plan_of t))))
+    (text : Bytes) (defs : List TableDef) (q : Query) (t : TypedQuery) → query_of text ≡ Ok q → HasScales defs → typed_query q defs ≡ Ok t → All IsAsWritten (expressions (pruned (pushed (plan_of t))))
 
 -- each expression of a plan can be lowered, on rows or on groups
 pub record IsLowerablePlan (p : RelPlan) : Type 0 where
@@ -33,7 +33,7 @@ pub record IsLowerablePlan (p : RelPlan) : Type 0 where
 
 pub record LowerableLaw : Type 0 where
   -- so it is in every well-formed plan whose literals are as the grammar has them
-  pub formed : (defs : List TableDef) (p : RelPlan) → IsWellFormed defs p → All IsLiteral (expressions p) → IsLowerablePlan p
+  pub formed : (defs : List TableDef) (p : RelPlan) → IsWellFormed defs p → All IsAsWritten (expressions p) → IsLowerablePlan p
   -- and in the plan that is made of a query that is read and typed
   pub read :
       (text : Bytes) (defs : List TableDef) (q : Query) (t : TypedQuery) → query_of text ≡ Ok q → HasScales defs → typed_query q defs ≡ Ok t → IsLowerablePlan (pruned (pushed (plan_of t)))
