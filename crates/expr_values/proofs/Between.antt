@@ -1,12 +1,10 @@
 -- BETWEEN and IN at one place: x BETWEEN a AND b is NOT (x < a OR x > b), and IN finds its equalities one by one.
-use Rattle.std.proofs.Common.{◌≡◌, ℕ, ◌-◌, ◌^◌, ◌<◌, max, ℤ, Bool, true, false, not, List, [], ◌∷◌, map, length, Option, Some, None, Result, Ok, Err, IfOk, refl, sym, ap, ◌∙◌, subst}
+use Rattle.std.proofs.Common.{◌≡◌, ℕ, ◌-◌, ◌^◌, ◌<◌, max, Bool, true, false, not, List, [], ◌∷◌, length, Option, Some, None, Ok, Err, refl, sym, ap, ◌∙◌, subst}
 use Rattle.control_vectors.specs.Slots.{Slot, Cell}
 use Rattle.control_vectors.specs.declared.Over.{Over}
 use Rattle.control_vectors.specs.declared.PairKind.TheVariants as pair
 use Rattle.slot_wise.specs.Pairs.{pair_slot}
 use Rattle.sql_values.specs.Values.{Value, number, text, truth, null, by_value}
-use Rattle.std.specs.declared.cmp.Ordering.{Ordering}
-use Rattle.std.specs.declared.cmp.Ordering.TheVariants.{Less, Equal, Greater}
 use Rattle.query_trees.specs.declared.expr.BinaryOp.{BinaryOp}
 use Rattle.query_trees.specs.declared.expr.BinaryOp.TheVariants as op
 use Rattle.query_trees.specs.declared.expr.Polarity.{Polarity}
@@ -18,16 +16,16 @@ use Rattle.table_load.specs.Databases.{coded}
 use Rattle.typed_values.specs.Values.{Valued, Operand, with, with_both, holds, comparison, both, opposite, either, by_polarity, rescaled, compared, between, among}
 use Rattle.value_laws.specs.Laws.{is_of, IsOf}
 use Rattle.expr_steps.specs.declared.steps.Source.{Source}
-use Rattle.expr_steps.specs.Codes.{Code, from_source, one, and_then}
-use Rattle.expr_steps.specs.Lowered.{Bytes, Part, zero, factors_of, compared_as, outside, unless_negated, any_equal, or_equal, found_equal} 
+use Rattle.expr_steps.specs.Codes.{Code, one, and_then}
+use Rattle.expr_steps.specs.Lowered.{Bytes, Part, zero, factors_of, compared_as, outside, unless_negated, any_equal, or_equal, found_equal}
 use Rattle.expr_steps.specs.Lowered as codes
 use Rattle.expr_values.specs.Laws.{value_cell}
 use Rattle.expr_values.specs.Places.{Place}
-use Rattle.expr_values.proofs.Codes.{Stands, Begins, Gives, Later, begins_later, then_cell, source_gives, one_gives, then_gives, as_cell}
-use Rattle.expr_values.proofs.Cells.{opposite_cell, unless_cell, unless_gives, polarity_cell, polarity_gives}
-use Rattle.expr_values.proofs.Numbers.{tri, as_tri, one_cell, opposite_coded, either_coded, polarity_coded}
-use Rattle.expr_values.proofs.Sides.{side_slot, IsSide, compare_cell, compare_gives, sides_compare}
-use Rattle.expr_values.proofs.Operands.{part_cell, IsText, Ready, not_err, side_of, side_is, scaled_cells, err_after, operand_of}
+use Rattle.expr_values.proofs.Codes.{Stands, Begins, Gives, begins_later, then_cell, one_gives, then_gives, as_cell}
+use Rattle.expr_values.proofs.Cells.{unless_cell, unless_gives}
+use Rattle.expr_values.proofs.Numbers.{tri, as_tri}
+use Rattle.expr_values.proofs.Sides.{compare_cell, compare_gives, sides_compare}
+use Rattle.expr_values.proofs.Operands.{part_cell, Ready, not_err, side_of, side_is, operand_of}
 
 -- ---- truths
 

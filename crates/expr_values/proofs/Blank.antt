@@ -1,5 +1,5 @@
 -- Where nothing stands, each step leaves nothing: by induction over the expression.
-use Rattle.std.proofs.Common.{◌≡◌, ℕ, zero, suc, ◌+◌, ◌-◌, ℤ, pos, Bool, true, false, if◌then◌else◌, List, [], ◌∷◌, ◌++◌, map, length, get_or, Option, Some, None, Result, Ok, Err, refl, sym, ap, ◌∙◌, subst}
+use Rattle.std.proofs.Common.{◌≡◌, ℕ, zero, suc, ◌+◌, ◌-◌, ℤ, pos, Bool, true, false, if◌then◌else◌, List, [], ◌∷◌, ◌++◌, map, length, get_or, Option, Some, None, Result, Ok, refl, sym, ap, ◌∙◌, subst}
 use Rattle.std.specs.Ordering.{int_eq}
 use Rattle.control_vectors.specs.Slots.{Slot, Cell}
 use Rattle.control_vectors.specs.declared.Over.{Over}
@@ -13,7 +13,6 @@ use Rattle.query_trees.specs.declared.expr.Polarity.{Polarity}
 use Rattle.query_trees.specs.declared.expr.Polarity.TheVariants.{Plain, Negated}
 use Rattle.query_trees.specs.declared.expr.Sign.{Sign}
 use Rattle.query_trees.specs.declared.expr.Sign.TheVariants.{Plus, Minus}
-use Rattle.typed_trees.specs.declared.typed.ColumnRef.{ColumnRef}
 use Rattle.typed_trees.specs.declared.typed.TypedExpr.{TypedExpr, roll-TypedExpr}
 use Rattle.typed_trees.specs.declared.typed.TypedExpr.TheOpen.{TypedExpr-F}
 use Rattle.typed_trees.specs.declared.typed.TypedExpr.TheFolds.{map-TypedExpr, ind-TypedExpr}
@@ -22,13 +21,12 @@ use Rattle.typed_values.specs.Narrow.{counted}
 use Rattle.typed_values.specs.Values.{holds}
 use Rattle.expr_steps.specs.declared.steps.Factors.{Factors}
 use Rattle.expr_steps.specs.declared.steps.Source.{Source}
-use Rattle.expr_steps.specs.declared.steps.Source.TheVariants.{Mark, Column, Aggregate, Made, Number}
-use Rattle.expr_steps.specs.declared.steps.Step.{Step}
+use Rattle.expr_steps.specs.declared.steps.Source.TheVariants.{Column, Aggregate, Made, Number}
 use Rattle.expr_steps.specs.Codes.{Code, Coded, from_source, pair_step, one, and_then}
-use Rattle.expr_steps.specs.Lowered.{Bytes, Part, part_of, lowered, form_code, zero as nought, unit, opposite, constants, steps_of, constant, times, raise, factors, scale_factors, brought_together, comparing, compared, compared_as, truth_source, binary, sign_step, divided, divisor, null_test, outside, unless_negated, by_polarity, any_equal, or_equal, found_equal, first_there, filled, filled_from, most_scale}
+use Rattle.expr_steps.specs.Lowered.{Bytes, Part, part_of, lowered, form_code, zero as nought, unit, opposite, constants, constant, times, raise, factors, scale_factors, brought_together, comparing, compared, compared_as, truth_source, binary, sign_step, divided, divisor, null_test, outside, unless_negated, by_polarity, any_equal, or_equal, found_equal, first_there, filled, filled_from, most_scale}
 use Rattle.expr_steps.proofs.Forms.{lowered_roll}
-use Rattle.expr_values.specs.Places.{Place, slot_from, step_cell, with_cell, made_by, last_cell, steps_cell}
-use Rattle.expr_values.specs.Laws.{IsBlankAt, BlankLaw}
+use Rattle.expr_values.specs.Places.{Place, slot_from, step_cell, with_cell, made_by, last_cell}
+use Rattle.expr_values.specs.Laws.{BlankLaw}
 use Rattle.expr_values.proofs.Codes.{then_made, made_append}
 use Rattle.expr_values.proofs.Names.{Named, AllNamed, IsPart, of_part, column_named, aggregate_named, left_named, right_named, tested_named, least_named, most_named, in_first_named, in_others_named, choice_first_named, choice_others_named, first_named, later_named}
 
@@ -274,7 +272,7 @@ all_blank texts p = ind-TypedExpr (IsBlank texts p) (λ x y is. subst (λ z. IsB
 pub blank_law : BlankLaw
 blank_law texts p e b =
     let code : LeavesBlank p (and_then (lowered texts e) (λ x. one pair.Fill x x)) =
-        then_blank p (lowered texts e) (λ x. one pair.Fill x x) (all_blank texts p e (record { columns = b.columns; aggregates = b.aggregates })) (λ x h. both_blank p pair.Fill x x h h) in
+    then_blank p (lowered texts e) (λ x. one pair.Fill x x) (all_blank texts p e (record { columns = b.columns; aggregates = b.aggregates })) (λ x h. both_blank p pair.Fill x x h h) in
     let two : List Slot = None ∷ None ∷ [] in
     let blanks = code 2 two none_two in
     let tail = (and_then (lowered texts e) (λ x. one pair.Fill x x) 2).steps in

@@ -1,5 +1,5 @@
 -- What each operator of an expression's code gives, by the slots of its operands.
-use Rattle.std.proofs.Common.{◌≡◌, ℕ, ℤ, pos, Bool, true, false, if◌then◌else◌, List, Option, Some, None, Ok, Err, refl}
+use Rattle.std.proofs.Common.{ℕ, ℤ, pos, Bool, true, false, if◌then◌else◌, List, Some, Ok}
 use Rattle.std.specs.Ordering.{int_eq}
 use Rattle.control_vectors.specs.Slots.{Slot, Cell}
 use Rattle.control_vectors.specs.declared.PairKind.TheVariants as pair
@@ -16,7 +16,7 @@ use Rattle.expr_steps.specs.declared.steps.Source.TheVariants.{Number}
 use Rattle.expr_steps.specs.Codes.{Code, from_source, one, and_then}
 use Rattle.expr_steps.specs.Lowered.{zero, unit, opposite, by_polarity, unless_negated, constant, times, brought_together, comparing, sign_step, divided, divisor, null_test}
 use Rattle.expr_values.specs.Places.{Place}
-use Rattle.expr_values.proofs.Codes.{Stands, Begins, Gives, Later, then_cell, source_gives, one_gives, number_stands, then_gives, as_cell}
+use Rattle.expr_values.proofs.Codes.{Stands, Begins, Gives, Later, then_cell, source_gives, one_gives, number_stands, then_gives}
 
 -- ---- truths
 

@@ -1,8 +1,6 @@
 -- COALESCE at one place: each operand fills what is empty before it.
-use Rattle.std.proofs.Common.{◌≡◌, ℕ, zero, suc, ◌-◌, ◌==◌, max, ℤ, pos, Bool, true, false, not, ◌&&◌, nat_le, List, [], ◌∷◌, map, Option, Some, None, Result, Ok, Err, IfOk, refl, sym, ap, ◌∙◌, subst}
-use Rattle.std.proofs.lemmas.Bool.{eqb-true}
+use Rattle.std.proofs.Common.{◌≡◌, ℕ, zero, suc, ◌-◌, ℤ, true, false, not, ◌&&◌, nat_le, List, [], ◌∷◌, map, Option, Some, None, Result, Ok, Err, IfOk, refl, sym, ap, ◌∙◌, subst}
 use Rattle.std.specs.List.{list_all}
-use Rattle.std.specs.Option.{option_or}
 use Rattle.control_vectors.specs.Slots.{Slot, Cell, in_128_bits}
 use Rattle.control_vectors.specs.declared.Over.{Over}
 use Rattle.control_vectors.specs.declared.PairKind.TheVariants as pair
@@ -26,8 +24,8 @@ use Rattle.expr_values.specs.Places.{Place}
 use Rattle.expr_values.specs.Written.{kind_scale}
 use Rattle.expr_values.proofs.Codes.{Stands, Begins, Gives, Later, begins_later, then_cell, slot_same, never, source_gives, one_gives, then_gives, as_cell}
 use Rattle.expr_values.proofs.Cells.{times_cell, times_gives}
-use Rattle.expr_values.proofs.Numbers.{one_cell, numeric, IsNumeric, times_numeric}
-use Rattle.expr_values.proofs.Sides.{scale_counted, plain_kind, plain_value}
+use Rattle.expr_values.proofs.Numbers.{times_numeric}
+use Rattle.expr_values.proofs.Sides.{scale_counted, plain_kind, plain_value, text_scale}
 use Rattle.expr_values.proofs.Scales.{and_left, scale_small, max_scale}
 use Rattle.expr_values.proofs.Operands.{Ready, operand_of}
 use Rattle.expr_values.proofs.Between.{part_at}
@@ -48,9 +46,6 @@ sole_operand texts p k y = operand_of y.scale y.value
 
 -- ---- a value at a greater scale
 
-no_scale : (n : ℕ) → (n == 0) ≡ true → n ≡ 0
-no_scale n h = eqb-true n 0 h
-
 times_plain : (texts : List Bytes) (k : Kind) (to n : ℕ) (v : Value) → plain_kind k ≡ true → nat_le n 36 ≡ true → is_of k v ≡ true → times_cell (raise to (counted n)) (coded texts v) ≡ value_cell texts (rescaled (to - n) v)
 times_plain texts k to n v plain small h =
     let o = plain_value k v plain h in
@@ -65,7 +60,7 @@ times_text texts to n v e f =
 times_value : (texts : List Bytes) (k : Kind) (to n : ℕ) (v : Value) → not (is_truth k) ≡ true → kind_scale k to ≡ true → kind_scale k n ≡ true → is_of k v ≡ true → times_cell (raise to (counted n)) (coded texts v) ≡ value_cell texts (rescaled (to - n) v)
 times_value texts Number to n v h t f i = times_plain texts Number to n v refl f i
 times_value texts Date to n v h t f i = times_plain texts Date to n v refl f i
-times_value texts Text to n v h t f i = times_text texts to n v (no_scale to t) (no_scale n f)
+times_value texts Text to n v h t f i = times_text texts to n v (text_scale to t) (text_scale n f)
 times_value texts Truth to n v h t f i = absurd (cc)
 
 -- ---- the first of two that is there
@@ -119,6 +114,7 @@ fill_gives texts p k to y h t made found v b so_far =
     filled_value : (q : Valued) → then_cell (value_cell texts q) (pair_slot pair.Fill (coded texts v)) ≡ value_cell texts (with q (λ w. Ok (first_of v w)))
     filled_value (Ok w) = fill_coded texts v w
     filled_value (Err e) = refl
+
     same : (r : Valued) → IsOf k r → kind_scale k y.scale ≡ true → then_cell (value_cell texts r) (λ u. then_cell (times_cell (raise to (counted y.scale)) u) (pair_slot pair.Fill (coded texts v))) ≡ value_cell texts (with (with r (rescaled (to - y.scale))) (λ w. Ok (first_of v w)))
     same (Ok w) i f = ap (λ (c : Cell). then_cell c (pair_slot pair.Fill (coded texts v))) (times_value texts k to y.scale w h t f i) ∙ filled_value (rescaled (to - y.scale) w)
     same (Err e) i f = refl

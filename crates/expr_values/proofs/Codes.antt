@@ -1,11 +1,11 @@
 -- What a piece of code makes at one place, behind what is made already.
-use Rattle.std.proofs.Common.{◌≡◌, ℕ, ◌+◌, ℤ, pos, false, true, List, [], ◌∷◌, ◌++◌, length, get_or, Option, Some, None, Result, Ok, Err, refl, sym, ap, ◌∙◌, subst, arith, append_assoc, append-nil, length-append}
+use Rattle.std.proofs.Common.{◌≡◌, ℕ, ◌+◌, ℤ, pos, false, true, List, [], ◌∷◌, ◌++◌, length, get_or, Some, None, Result, Ok, Err, refl, sym, ap, ◌∙◌, subst, arith, append_assoc, append-nil, length-append}
 use Rattle.control_vectors.specs.Slots.{Slot, Cell}
 use Rattle.control_vectors.specs.declared.Over.{Over}
 use Rattle.control_vectors.specs.declared.PairKind.{PairKind}
 use Rattle.slot_wise.specs.Pairs.{pair_slot}
 use Rattle.expr_steps.specs.declared.steps.Source.{Source}
-use Rattle.expr_steps.specs.declared.steps.Source.TheVariants.{Made, Number}
+use Rattle.expr_steps.specs.declared.steps.Source.TheVariants.{Number}
 use Rattle.expr_steps.specs.declared.steps.Step.{Step}
 use Rattle.expr_steps.specs.Codes.{Code, Coded, from_source, pair_step, one, and_then}
 use Rattle.expr_steps.specs.Lowered.{zero, unit}
@@ -87,6 +87,7 @@ made_length p (step ∷ a) made = by (λ x. made_length p a (made ++ x ∷ [])) 
     longer : (x : Slot) (r : Result (List Slot) Over) → IsLonger (made ++ x ∷ []) a r → IsLonger made (step ∷ a) r
     longer x (Ok l) h = h ∙ (ap (λ (n : ℕ). n + length a) (length-append made (x ∷ [])) ∙ omega arith)
     longer x (Err e) h = 0
+
     by : ((x : Slot) → IsLonger (made ++ x ∷ []) a (made_by p a (made ++ x ∷ []))) → (c : Cell) → IsLonger made (step ∷ a) (with_cell made c (made_by p a))
     by rest (Ok x) = longer x (made_by p a (made ++ x ∷ [])) (rest x)
     by rest (Err e) = 0
@@ -111,10 +112,12 @@ behind p made m f s h q g = by q g
   where
     number : f (m (length made)).result (length (made ++ h.new)) ≡ f (m (length made)).result (length made + length (m (length made)).steps)
     number = ap (f (m (length made)).result) (next_number p made (m (length made)) s h)
+
     whole : (r : Result (List Slot) Over) → made_by p (f (m (length made)).result (length (made ++ h.new))).steps (made ++ h.new) ≡ r → made_by p (and_then m f (length made)).steps made ≡ r
     whole r e =
         made_append p (m (length made)).steps (f (m (length made)).result (length made + length (m (length made)).steps)).steps made
         ∙ (ap (λ (l : Result (List Slot) Over). then_made l (made_by p (f (m (length made)).result (length made + length (m (length made)).steps)).steps)) h.is ∙ (ap (λ (c : Coded). made_by p c.steps (made ++ h.new)) (sym number) ∙ e))
+
     by : (q : Cell) → Gives p (made ++ h.new) (f (m (length made)).result) q → Gives p made (and_then m f) q
     by (Ok t) g = record {
       new = h.new ++ g.new;

@@ -1,11 +1,11 @@
 -- The code of each form leaves the form's value: those of one operand, and those of two.
-use Rattle.std.proofs.Common.{◌≡◌, ℕ, ◌+◌, ◌-◌, ◌==◌, max, ℤ, pos, negsuc, ◌+ℤ◌, ◌-ℤ◌, ◌*ℤ◌, nat_lt, Bool, true, false, not, ◌&&◌, if◌then◌else◌, List, Option, Some, None, Ok, Err, refl, sym, ap, ◌∙◌, subst, arith}
-use Rattle.std.proofs.lemmas.Int.{ints}
-use Rattle.control_vectors.specs.Slots.{Slot, Cell, fitted, fits_128, in_128_bits, or_over}
+use Rattle.std.proofs.Common.{◌≡◌, ℕ, ◌-◌, ◌==◌, max, ℤ, pos, Bool, true, false, not, ◌&&◌, if◌then◌else◌, List, Option, Some, None, Ok, refl, sym, ap, ◌∙◌, subst}
+use Rattle.std.proofs.Math.IntN.{+ℤ_idl}
+use Rattle.control_vectors.specs.Slots.{Slot, fitted, fits_128, in_128_bits, or_over}
 use Rattle.control_vectors.specs.declared.PairKind.{PairKind}
 use Rattle.control_vectors.specs.declared.PairKind.TheVariants as pair
 use Rattle.slot_wise.specs.Pairs.{pair_slot}
-use Rattle.sql_values.specs.Values.{Value, number, text, truth, null}
+use Rattle.sql_values.specs.Values.{Value, truth}
 use Rattle.query_trees.specs.declared.expr.BinaryOp.{BinaryOp}
 use Rattle.query_trees.specs.declared.expr.BinaryOp.TheVariants as op
 use Rattle.query_trees.specs.declared.expr.Polarity.{Polarity}
@@ -13,40 +13,33 @@ use Rattle.query_trees.specs.declared.expr.Sign.{Sign}
 use Rattle.table_load.specs.Databases.{coded}
 use Rattle.typed_trees.specs.declared.kinds.Kind.{Kind}
 use Rattle.typed_trees.specs.declared.kinds.Kind.TheVariants.{Number, Date, Text, Truth}
-use Rattle.typed_trees.specs.declared.kinds.Role.TheVariants.{Side, Alone}
 use Rattle.typed_trees.specs.declared.typed.TypedExpr.{TypedExpr}
-use Rattle.typed_trees.specs.Kinds.{is_number, is_truth, same_kind, compare, family_of, role_in, takes, makes}
+use Rattle.typed_trees.specs.Kinds.{is_number, is_truth, same_kind, compare, family_of, role_in, takes}
 use Rattle.typed_trees.specs.Scales.{scale_of}
 use Rattle.typed_trees.specs.Sides.{stands}
-use Rattle.typed_trees.specs.Types.{DataType}
 use Rattle.typed_values.specs.Intervals.{combined}
-use Rattle.typed_values.specs.Values.{Valued, On, Operand, with, with_both, exact, arithmetic, signed_value, quotient_value, both, opposite, either, by_polarity, is_null, rescaled, at_one_scale, compared, binary_value, value}
+use Rattle.typed_values.specs.Values.{Valued, with, with_both, exact, arithmetic, signed_value, quotient_value, both, opposite, either, by_polarity, is_null, rescaled, at_one_scale, compared, binary_value, value}
 use Rattle.typed_values.proofs.Evaluations.{evaluated}
 use Rattle.value_laws.specs.Laws.{is_of, IsOf}
-use Rattle.expr_steps.specs.declared.steps.Source.{Source}
 use Rattle.expr_steps.specs.Codes.{Code, one, and_then}
 use Rattle.expr_steps.specs.Lowered.{Bytes, Part, part_of, lowered, literal_of, written, constant, text_number, scale_factors, brought_together, binary, in_two, sign_step, divided, null_test}
 use Rattle.expr_steps.specs.Lowered as codes
 use Rattle.expr_values.specs.Laws.{value_cell}
 use Rattle.expr_values.specs.Places.{Place}
 use Rattle.expr_values.specs.Written.{fits_127, kind_scale}
-use Rattle.expr_values.proofs.Codes.{Stands, Begins, Gives, then_cell, one_gives, as_cell}
+use Rattle.expr_values.proofs.Codes.{Begins, Gives, then_cell, one_gives, as_cell}
 use Rattle.expr_values.proofs.Cells.{opposite_cell, opposite_gives, null_cell, null_gives, constant_gives, sign_cell, sign_gives, divided_gives, brought_cell, brought_gives}
-use Rattle.expr_values.proofs.Numbers.{IsNumeric, numeric, opposite_coded, both_coded, either_coded, null_coded, exact_coded, arithmetic_numeric, arithmetic_coded, sign_coded, quotient_coded, written_is}
+use Rattle.expr_values.proofs.Numbers.{numeric, opposite_coded, both_coded, either_coded, null_coded, exact_coded, arithmetic_numeric, arithmetic_coded, sign_coded, quotient_coded, written_is}
 use Rattle.expr_values.proofs.Sides.{brought_numeric, plain_kind, plain_value}
 use Rattle.expr_values.proofs.Scales.{and_left, and_right, same_is, scale_small}
-use Rattle.expr_values.proofs.Operands.{part_cell, Ready, unary_gives, binary_gives, plain_gives, scaled_cells, operand_of, compared_gives}
+use Rattle.expr_values.proofs.Operands.{Ready, unary_gives, binary_gives, plain_gives, scaled_cells, operand_of, compared_gives}
 use Rattle.expr_values.proofs.Fits.{World}
 use Rattle.expr_values.proofs.Sound.{ReadyAt, alone, as_kind}
 
 -- ---- literals
 
-zero_plus : (z : ℤ) → pos 0 +ℤ z ≡ z
-zero_plus (pos n) = let same : 0 + n ≡ n = omega arith in ap (λ (m : ℕ). pos m) same
-zero_plus (negsuc n) = grind (arith, ints)
-
 constant_is : (z : ℤ) → in_128_bits z ≡ Some z → pair_slot pair.Add (Some (pos 0)) (Some z) ≡ Ok (Some z)
-constant_is z h = ap fitted (zero_plus z) ∙ ap or_over h
+constant_is z h = ap fitted (+ℤ_idl z) ∙ ap or_over h
 
 pub literal_gives : (p : Place) (z : ℤ) → in_128_bits z ≡ Some z → (made : List Slot) → Begins p made → Gives p made (constant z) (Ok (Some z))
 literal_gives p z h made b = as_cell p made (constant z) (pair_slot pair.Add (Some (pos 0)) (Some z)) (Ok (Some z)) (constant_is z h) (constant_gives p made z b)

@@ -1,10 +1,9 @@
+pub mod Names
 pub mod Codes
-pub mod Cells
-pub mod Numbers
-pub mod Texts
-pub mod Sides
-mod Names
-mod Blank
+mod Cells
+mod Numbers
+mod Texts
+mod Sides
 pub mod Scales
 mod Operands
 mod Between
@@ -14,3 +13,4 @@ mod Fits
 mod Sound
 mod Forms
 mod Whole
+mod Blank

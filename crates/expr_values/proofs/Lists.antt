@@ -1,35 +1,29 @@
 -- IN and COALESCE at one place: operands that are read one by one, behind what is found so far.
-use Rattle.std.proofs.Common.{◌≡◌, ℕ, zero, suc, ◌-◌, ◌^◌, ◌<◌, max, ℤ, pos, Bool, true, false, not, nat_le, List, [], ◌∷◌, map, length, Option, Some, None, Result, Ok, Err, IfOk, refl, sym, ap, ◌∙◌, subst}
-use Rattle.std.proofs.lemmas.Bool.{eqb-true}
-use Rattle.std.specs.Option.{option_or}
+use Rattle.std.proofs.Common.{◌≡◌, ℕ, ◌^◌, ◌<◌, pos, Bool, true, false, not, List, [], ◌∷◌, map, length, Option, Some, None, Ok, Err, refl, sym, ap, ◌∙◌, subst}
 use Rattle.control_vectors.specs.Slots.{Slot, Cell}
 use Rattle.control_vectors.specs.declared.Over.{Over}
 use Rattle.control_vectors.specs.declared.PairKind.TheVariants as pair
 use Rattle.slot_wise.specs.Pairs.{pair_slot}
-use Rattle.sql_values.specs.Values.{Value, number, text, truth, null}
+use Rattle.sql_values.specs.Values.{Value, text, truth}
 use Rattle.query_trees.specs.declared.expr.BinaryOp.TheVariants as op
 use Rattle.query_trees.specs.declared.expr.Polarity.{Polarity}
 use Rattle.typed_trees.specs.declared.kinds.Kind.{Kind}
-use Rattle.typed_trees.specs.declared.kinds.Kind.TheVariants.{Number, Date, Text, Truth}
+use Rattle.typed_trees.specs.declared.kinds.Kind.TheVariants.{Truth}
 use Rattle.typed_trees.specs.Kinds.{is_truth}
-use Rattle.typed_trees.specs.Scales.{greatest}
 use Rattle.table_load.specs.Databases.{coded}
-use Rattle.typed_values.specs.Narrow.{counted}
-use Rattle.typed_values.specs.Values.{Valued, Operand, with, with_both, either, opposite, both, by_polarity, first_there, rescaled, at_scale, all_at_one_scale, more_valued, all_valued, compared, among}
+use Rattle.typed_values.specs.Values.{Valued, Operand, with, with_both, either, by_polarity, compared, among}
 use Rattle.value_laws.specs.Laws.{is_of, IsOf}
 use Rattle.expr_steps.specs.declared.steps.Source.{Source}
 use Rattle.expr_steps.specs.Codes.{Code, from_source, one, and_then}
 use Rattle.expr_steps.specs.Lowered.{Bytes, Part, factors_of, compared_as, any_equal, or_equal, found_equal, times, raise, filled, filled_from, most_scale}
 use Rattle.expr_steps.specs.Lowered as codes
-use Rattle.expr_values.specs.Laws.{is_known, value_cell}
+use Rattle.expr_values.specs.Laws.{value_cell}
 use Rattle.expr_values.specs.Places.{Place}
-use Rattle.expr_values.specs.Written.{kind_scale}
 use Rattle.expr_values.proofs.Codes.{Stands, Begins, Gives, Later, begins_later, then_cell, slot_same, never, source_gives, one_gives, then_gives, as_cell}
-use Rattle.expr_values.proofs.Cells.{polarity_cell, polarity_gives, times_cell, times_gives}
-use Rattle.expr_values.proofs.Numbers.{tri, as_tri, one_cell, either_coded, polarity_coded, numeric, times_numeric}
-use Rattle.expr_values.proofs.Sides.{side_slot, IsSide, compare_cell, compare_gives, scale_counted, plain_kind, plain_value}
-use Rattle.expr_values.proofs.Scales.{scale_small, max_scale}
-use Rattle.expr_values.proofs.Operands.{part_cell, IsText, Ready, not_err, side_of, side_is, operand_of, compared_cells}
+use Rattle.expr_values.proofs.Cells.{polarity_cell, polarity_gives}
+use Rattle.expr_values.proofs.Numbers.{tri, as_tri, one_cell, either_coded, polarity_coded}
+use Rattle.expr_values.proofs.Sides.{side_slot, compare_cell, compare_gives}
+use Rattle.expr_values.proofs.Operands.{part_cell, Ready, not_err, side_is, operand_of, compared_cells}
 use Rattle.expr_values.proofs.Between.{part_at, either_of, compared_of, among_of}
 
 -- ---- a list of operands
@@ -108,7 +102,7 @@ equal_gives texts p k s a v m x y few truthless made at found f begins h stands 
     let cell = compare_cell texts op.Equal s t a b (side_slot texts s v) in
     let both_cells : then_cell (part_cell texts t y.value) (λ w. then_cell (cell w) (pair_slot pair.LogicalOr (coded texts f))) ≡ then_cell (then_cell (part_cell texts t y.value) cell) (pair_slot pair.LogicalOr (coded texts f)) = nested (part_cell texts t y.value) cell (pair_slot pair.LogicalOr (coded texts f)) in
     let compared_is : then_cell (part_cell texts t y.value) cell ≡ value_cell texts q =
-        ap (λ (z : Cell). then_cell z (λ u. then_cell (part_cell texts t y.value) (compare_cell texts op.Equal s t a b u))) (sym (side_is texts s v)) ∙ compared_cells texts p k op.Equal s t a b (Ok v) y.value m y.code few truthless x y.ready in
+    ap (λ (z : Cell). then_cell z (λ u. then_cell (part_cell texts t y.value) (compare_cell texts op.Equal s t a b u))) (sym (side_is texts s v)) ∙ compared_cells texts p k op.Equal s t a b (Ok v) y.value m y.code few truthless x y.ready in
     as_cell p made (or_equal texts (part_at a s m) at (member_part texts p k y) found) (then_cell (part_cell texts t y.value) (λ w. then_cell (cell w) (pair_slot pair.LogicalOr (coded texts f)))) (value_cell texts (with q (λ c. Ok (either f c))))
     (both_cells ∙ (ap (λ (z : Cell). then_cell z (pair_slot pair.LogicalOr (coded texts f))) compared_is
     ∙ one_cell texts (λ c. is_of Truth c ≡ true) q (pair_slot pair.LogicalOr (coded texts f)) (λ c. Ok (either f c)) (compared_of op.Equal (operand_of a (Ok v)) (operand_of b y.value)) (λ c i. either_coded texts f c h i)))

@@ -1,8 +1,8 @@
 -- Values as slots: what each operator gives for the slots of truths and of numbers is the slot of what it gives for the values.
-use Rattle.std.proofs.Common.{◌≡◌, ℕ, zero, suc, ◌+◌, ◌*◌, ◌^◌, ◌<◌, ◌≤◌, ◌==◌, min, ℤ, pos, ◌+ℤ◌, ◌-ℤ◌, ◌*ℤ◌, int_div, int_lt, cond, Bool, true, false, not, if◌then◌else◌, nat_lt, List, Option, Some, None, Result, Ok, Err, IfOk, refl, sym, ap, ◌∙◌, subst, arith}
+use Rattle.std.proofs.Common.{◌≡◌, ℕ, zero, suc, ◌^◌, ◌<◌, ◌≤◌, ◌==◌, ℤ, pos, ◌+ℤ◌, ◌-ℤ◌, ◌*ℤ◌, int_div, int_lt, cond, Bool, true, false, not, if◌then◌else◌, nat_lt, List, Option, Some, None, Ok, Err, IfOk, refl, ap, ◌∙◌, subst, arith}
 use Rattle.std.proofs.lemmas.Bool.{ltb-true}
 use Rattle.std.specs.declared.cmp.Ordering.TheVariants.{Less, Equal, Greater}
-use Rattle.std.specs.Ordering.{int_eq, int_cmp, is_lt, is_gt, is_eq}
+use Rattle.std.specs.Ordering.{int_eq, int_cmp, is_lt, is_gt}
 use Rattle.control_vectors.specs.Slots.{Slot, Cell, in_128_bits, fitted, or_over as cell_or_over}
 use Rattle.dict_codes.specs.Dictionaries.{rank_in}
 use Rattle.control_vectors.specs.declared.PairKind.TheVariants as pair
@@ -15,16 +15,15 @@ use Rattle.query_trees.specs.declared.expr.Polarity.{Polarity}
 use Rattle.query_trees.specs.declared.expr.Polarity.TheVariants.{Plain, Negated}
 use Rattle.query_trees.specs.declared.expr.Sign.{Sign}
 use Rattle.query_trees.specs.declared.expr.Sign.TheVariants.{Plus, Minus}
-use Rattle.typed_trees.specs.declared.kinds.Kind.{Kind}
-use Rattle.typed_trees.specs.declared.kinds.Kind.TheVariants.{Number, Date, Text, Truth}
+use Rattle.typed_trees.specs.declared.kinds.Kind.TheVariants.{Number, Truth}
 use Rattle.table_load.specs.Databases.{coded}
-use Rattle.typed_values.specs.Intervals.{signed, combined, raised}
+use Rattle.typed_values.specs.Intervals.{signed, raised}
 use Rattle.typed_values.specs.Values.{Valued, with, with_both, or_over, exact, arithmetic, signed_value, quotient_value, holds, comparison, both, opposite, either, by_polarity, is_null, rescaled}
 use Rattle.value_laws.specs.Laws.{is_of}
 use Rattle.expr_steps.specs.Lowered.{Bytes, written, divisor}
 use Rattle.expr_values.specs.Laws.{value_cell}
 use Rattle.expr_values.proofs.Codes.{then_cell}
-use Rattle.expr_values.proofs.Cells.{opposite_cell, polarity_cell, unless_cell, null_cell, times_cell, sign_cell, comparing_cell}
+use Rattle.expr_values.proofs.Cells.{opposite_cell, polarity_cell, null_cell, times_cell, sign_cell, comparing_cell}
 
 -- ---- one value and two
 
@@ -102,15 +101,15 @@ slot_itself z = ap (λ (b : Bool). Ok (Some (slots.truth b))) (below_itself z)
     below_itself : (z : ℤ) → int_lt z z ≡ false
     below_itself z = grind (arith)
 
-pub slot_same : (z : ℤ) → pair_slot pair.Equals (Some z) (Some z) ≡ Ok (Some (pos 1))
-slot_same z = ap (λ (b : Bool). Ok (Some (slots.truth b))) (is_itself z)
+pub slot_equal : (z : ℤ) → pair_slot pair.Equals (Some z) (Some z) ≡ Ok (Some (pos 1))
+slot_equal z = ap (λ (b : Bool). Ok (Some (slots.truth b))) (is_itself z)
   where
     is_itself : (z : ℤ) → int_eq z z ≡ true
     is_itself z = grind (arith)
 
 null_there : (texts : List Bytes) (by : Polarity) (z : ℤ) → null_cell by (Some z) ≡ Ok (coded texts (by_polarity by (truth false)))
 null_there texts Plain z = ap (λ (c : Cell). then_cell c (λ t. pair_slot pair.Fill t (Some (pos 1)))) (slot_itself z)
-null_there texts Negated z = ap (λ (c : Cell). then_cell c (λ t. pair_slot pair.Fill t (Some (pos 0)))) (slot_same z)
+null_there texts Negated z = ap (λ (c : Cell). then_cell c (λ t. pair_slot pair.Fill t (Some (pos 0)))) (slot_equal z)
 
 pub null_coded : (texts : List Bytes) (by : Polarity) (v : Value) → null_cell by (coded texts v) ≡ value_cell texts (Ok (by_polarity by (truth (is_null v))))
 null_coded texts Plain null = refl
@@ -235,6 +234,7 @@ gt_is a b = by (int_lt a b) (int_lt b a) (not_both a b)
   where
     not_both : (a b : ℤ) → int_lt a b ≡ true → int_lt b a ≡ false
     not_both a b h = grind arith
+
     by : (t u : Bool) → (t ≡ true → u ≡ false) → u ≡ is_gt (cond t Less (cond u Greater Equal))
     by true u h = h refl
     by false true h = refl

@@ -1,14 +1,13 @@
 -- Operands of one place: values that stand where code leaves them, and what the operators over one and two of them give.
-use Rattle.std.proofs.Common.{◌≡◌, ℕ, ◌+◌, ◌-◌, ◌^◌, ◌<◌, max, ℤ, pos, Bool, true, false, not, List, length, Option, Some, None, Result, Ok, Err, IfOk, refl, sym, ap, ◌∙◌, subst}
+use Rattle.std.proofs.Common.{◌≡◌, ℕ, ◌-◌, ◌^◌, ◌<◌, max, true, false, not, List, length, Option, Some, None, Ok, Err, IfOk, refl, sym, ap, ◌∙◌, subst}
 use Rattle.control_vectors.specs.Slots.{Slot, Cell}
 use Rattle.control_vectors.specs.declared.Over.{Over}
-use Rattle.sql_values.specs.Values.{Value, number, text, truth, null}
+use Rattle.sql_values.specs.Values.{Value, text}
 use Rattle.query_trees.specs.declared.expr.BinaryOp.{BinaryOp}
 use Rattle.typed_trees.specs.declared.kinds.Kind.{Kind}
-use Rattle.typed_trees.specs.declared.kinds.Kind.TheVariants.{Number, Date, Text, Truth}
 use Rattle.typed_trees.specs.Kinds.{is_truth}
 use Rattle.table_load.specs.Databases.{coded}
-use Rattle.typed_values.specs.Values.{Valued, Operand, with, with_both, comparison, rescaled, at_scale, at_one_scale, compared}
+use Rattle.typed_values.specs.Values.{Valued, Operand, with, with_both, comparison, rescaled, compared}
 use Rattle.value_laws.specs.Laws.{is_of, IsOf}
 use Rattle.expr_steps.specs.declared.steps.Source.{Source}
 use Rattle.expr_steps.specs.Codes.{Code, and_then}
@@ -16,10 +15,10 @@ use Rattle.expr_steps.specs.Lowered.{Bytes, text_number, factors_of, compared_as
 use Rattle.expr_values.specs.Laws.{is_known, value_cell}
 use Rattle.expr_values.specs.Places.{Place}
 use Rattle.expr_values.specs.Written.{kind_scale}
-use Rattle.expr_values.proofs.Codes.{Stands, Begins, Gives, Later, begins_later, then_cell, then_gives, as_cell}
+use Rattle.expr_values.proofs.Codes.{Stands, Begins, Gives, begins_later, then_cell, then_gives, as_cell}
 use Rattle.expr_values.proofs.Cells.{two_gives}
 use Rattle.expr_values.proofs.Numbers.{one_cell, two_cells}
-use Rattle.expr_values.proofs.Sides.{side_slot, IsTextOf, IsSide, compare_cell, compare_gives, compared_at, sides_compare}
+use Rattle.expr_values.proofs.Sides.{side_slot, IsTextOf, IsSide, compare_cell, compare_gives, sides_compare}
 
 -- ---- operands
 

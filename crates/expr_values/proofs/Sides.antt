@@ -1,5 +1,5 @@
 -- Comparisons of two operands, each an expression's value or a text literal, by the slots that stand for them.
-use Rattle.std.proofs.Common.{Ordering, ◌≡◌, ℕ, zero, suc, ◌+◌, ◌-◌, ◌*◌, ◌^◌, ◌<◌, ◌≤◌, ◌==◌, min, max, ℤ, pos, ◌-ℤ◌, Bool, true, false, not, nat_le, List, length, Option, Some, None, Result, Ok, Err, IfOk, refl, sym, ap, ◌∙◌, subst, arith}
+use Rattle.std.proofs.Common.{Ordering, ◌≡◌, ℕ, ◌-◌, ◌*◌, ◌^◌, ◌<◌, ◌≤◌, ◌==◌, max, ℤ, pos, ◌-ℤ◌, Bool, true, false, not, nat_le, List, length, Option, Some, None, Ok, refl, sym, ap, ◌∙◌, subst, arith}
 use Rattle.std.proofs.lemmas.Bool.{leb-true, eqb-true}
 use Rattle.std.specs.Ordering.{int_cmp}
 use Rattle.control_vectors.specs.Slots.{Slot, Cell}
@@ -12,12 +12,11 @@ use Rattle.typed_trees.specs.Kinds.{is_truth}
 use Rattle.table_load.specs.Databases.{coded}
 use Rattle.dict_codes.specs.Dictionaries.{rank_in, is_among}
 use Rattle.typed_values.specs.Narrow.{counted}
-use Rattle.typed_values.specs.Values.{Valued, Operand, with_both, holds, comparison, rescaled, at_scale, compared}
-use Rattle.value_laws.specs.Laws.{is_of, IsOf}
+use Rattle.typed_values.specs.Values.{Valued, with_both, holds, comparison, rescaled}
+use Rattle.value_laws.specs.Laws.{is_of}
 use Rattle.expr_steps.specs.declared.steps.Factors.{Factors}
 use Rattle.expr_steps.specs.declared.steps.Source.{Source}
-use Rattle.expr_steps.specs.Codes.{Code, from_source}
-use Rattle.expr_steps.specs.Lowered.{Bytes, Part, text_number, raise, scale_factors, factors_of, steps_a_code, comparing, compared_as, truth_source}
+use Rattle.expr_steps.specs.Lowered.{Bytes, text_number, raise, scale_factors, factors_of, steps_a_code, comparing, compared_as, truth_source}
 use Rattle.expr_values.specs.Laws.{is_known, value_cell}
 use Rattle.expr_values.specs.Places.{Place}
 use Rattle.expr_values.specs.Written.{kind_scale}
@@ -180,7 +179,7 @@ right_compared texts o a t few k = by (is_among texts t) refl a k
         ∙ (ap (λ (z : ℤ). comparing_cell o (Some (pos (2 * rank_in texts s))) (Some z)) (number_absent texts t e) ∙ texts_compared texts o s t (pos (2 * rank_in texts s)) (pos (2 * rank_in texts t) -ℤ pos 1) (halves_compare texts s t k e))
 
 -- texts have no scale
-text_scale : (n : ℕ) → (n == 0) ≡ true → n ≡ 0
+pub text_scale : (n : ℕ) → (n == 0) ≡ true → n ≡ 0
 text_scale n h = eqb-true n 0 h
 
 text_cells : (texts : List Bytes) (o : BinaryOp) (s t : Option Bytes) (a b : Option Bytes) → length texts < 2 ^ 32 → IsTextOf texts s (textual a) → IsTextOf texts t (textual b) →
@@ -201,6 +200,7 @@ text_compare texts o s t m n v w few a b =
     of_values v a w b e f =
         subst (λ (x : Value). IsTextOf texts s x → IsTextOf texts t w → compare_cell texts o s t 0 0 (side_slot texts s x) (side_slot texts t w) ≡ value_cell texts (Ok (comparison o x w))) e
         (subst (λ (y : Value). IsTextOf texts s (textual a) → IsTextOf texts t y → compare_cell texts o s t 0 0 (side_slot texts s (textual a)) (side_slot texts t y) ≡ value_cell texts (Ok (comparison o (textual a) y))) f (text_cells texts o s t a b few))
+
     at_zero : m ≡ 0 → n ≡ 0 → compare_cell texts o s t 0 0 (side_slot texts s v) (side_slot texts t w) ≡ value_cell texts (compared_at o 0 0 v w) → compare_cell texts o s t m n (side_slot texts s v) (side_slot texts t w) ≡ value_cell texts (compared_at o m n v w)
     at_zero e f h =
         subst (λ (i : ℕ). compare_cell texts o s t i n (side_slot texts s v) (side_slot texts t w) ≡ value_cell texts (compared_at o i n v w)) (sym e)

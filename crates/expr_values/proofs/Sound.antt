@@ -1,8 +1,8 @@
 -- Expressions whose code leaves their value, as operands of greater ones.
-use Rattle.std.proofs.Common.{◌≡◌, ℕ, ◌&&◌, ℤ, pos, ◌+ℤ◌, Bool, true, false, not, List, [], ◌∷◌, map, Option, Some, None, Ok, Err, IfOk, refl, sym, ap, ◌∙◌, subst}
+use Rattle.std.proofs.Common.{◌≡◌, ℕ, Bool, true, false, not, List, [], ◌∷◌, map, Option, Some, None, Ok, Err, IfOk, refl, sym, ap, ◌∙◌, subst}
 use Rattle.std.specs.List.{list_all}
-use Rattle.control_vectors.specs.Slots.{Slot, Cell}
-use Rattle.sql_values.specs.Values.{Value, number, text, truth, null}
+use Rattle.control_vectors.specs.Slots.{Slot}
+use Rattle.sql_values.specs.Values.{number, text, truth, null}
 use Rattle.typed_trees.specs.declared.kinds.Kind.{Kind}
 use Rattle.typed_trees.specs.declared.kinds.Kind.TheVariants.{Number, Date, Text, Truth}
 use Rattle.typed_trees.specs.declared.kinds.Role.{Role}
@@ -12,14 +12,14 @@ use Rattle.typed_trees.specs.declared.typed.TypedExpr.TheOpen.{TypedExpr-F}
 use Rattle.typed_trees.specs.declared.typed.TypedExpr.TheFolds.{map-TypedExpr, ind-TypedExpr, fold-roll-TypedExpr}
 use Rattle.typed_trees.specs.Kinds.{is_truth, same_kind}
 use Rattle.typed_trees.specs.Scales.{scale_of}
-use Rattle.typed_trees.specs.Sides.{form_stands, stands}
+use Rattle.typed_trees.specs.Sides.{stands}
 use Rattle.typed_trees.specs.Types.{DataType, compares_with, all_types, type_of}
 use Rattle.typed_trees.proofs.Inversions.{first_typed}
 use Rattle.typed_trees.proofs.Scaled.{scale_law}
 use Rattle.typed_trees.proofs.SideForms.{stands_roll}
 use Rattle.typed_values.specs.Values.{Valued, Operand, form_value, value}
 use Rattle.typed_values.proofs.Evaluations.{evaluated, value_roll}
-use Rattle.value_laws.specs.Laws.{is_of, IsOf}
+use Rattle.value_laws.specs.Laws.{IsOf}
 use Rattle.expr_steps.specs.Codes.{Code}
 use Rattle.expr_steps.specs.Lowered.{Bytes, Part, form_literal, literal_of, form_code, part_of, lowered}
 use Rattle.expr_steps.proofs.Forms.{lowered_roll}
@@ -176,7 +176,7 @@ pub done_form : (w : World) (d : TypedExpr-F TypedExpr) → form_literal (map-Ty
 done_form w d none known g = record {
   text = subst (λ (l : Option Bytes). IsText w.texts l (value w.on (roll-TypedExpr d))) (sym literal) (subst (λ (r : Valued). IfOk r (λ v. is_known w.texts v ≡ true)) (sym (value_roll w.on d)) known);
   gives = λ made b. subst (λ (l : Option Bytes). Gives w.place made (lowered w.texts (roll-TypedExpr d)) (part_cell w.texts l (value w.on (roll-TypedExpr d)))) (sym literal)
-  (subst (λ (m : Code). Gives w.place made m (value_cell w.texts (value w.on (roll-TypedExpr d)))) (sym (lowered_roll w.texts d)) (subst (λ (r : Valued). Gives w.place made (code_at w d) (value_cell w.texts r)) (sym (value_roll w.on d)) (g made b)));
+      (subst (λ (m : Code). Gives w.place made m (value_cell w.texts (value w.on (roll-TypedExpr d)))) (sym (lowered_roll w.texts d)) (subst (λ (r : Valued). Gives w.place made (code_at w d) (value_cell w.texts r)) (sym (value_roll w.on d)) (g made b)));
 }
   where
     literal : literal_of (roll-TypedExpr d) ≡ None

@@ -1,16 +1,16 @@
 -- Texts as codes: a text of the dictionary compares by its code, and any other stands half a step below the first code above it.
-use Rattle.std.proofs.Common.{Ordering, ◌≡◌, ℕ, zero, suc, ◌+◌, ◌-◌, ◌*◌, ◌^◌, ◌<◌, ◌≤◌, ℤ, pos, ◌-ℤ◌, ◌*ℤ◌, ◌<ℤ◌, cond, Bool, true, false, ◌||◌, if◌then◌else◌, List, [], ◌∷◌, length, Option, Some, None, Ok, refl, sym, ap, ◌∙◌, subst, arith}
+use Rattle.std.proofs.Common.{Ordering, ◌≡◌, ℕ, zero, suc, ◌+◌, ◌*◌, ◌^◌, ◌<◌, ◌≤◌, pos, ◌-ℤ◌, ◌<ℤ◌, cond, Bool, true, false, ◌||◌, if◌then◌else◌, List, [], ◌∷◌, length, Some, None, Ok, refl, sym, ap, ◌∙◌, arith}
 use Rattle.std.specs.declared.cmp.Ordering.TheVariants.{Less, Equal, Greater}
 use Rattle.std.specs.Ordering.{int_cmp, is_lt, is_eq, ordering_reverse, MatchOrdering}
 use Rattle.std.specs.Cmp.{int_cmp_is}
-use Rattle.std.specs.List.{count_by, list_any}
+use Rattle.std.specs.List.{list_any}
 use Rattle.std.specs.Str.{bytes_eq}
-use Rattle.std.proofs.lemmas.Cmp.{nat_list_cmp_total, alike_right}
+use Rattle.std.proofs.lemmas.Cmp.{nat_list_cmp_total}
 use Rattle.std.proofs.lemmas.Bool.{lt-ltb}
 use Rattle.std.proofs.lemmas.Int.{ints}
 use Rattle.std.proofs.lemmas.List.Sums.{sum_by-cons, count_by-le-length}
 use Rattle.std.proofs.lemmas.Map.Text.{is_eq-slice_cmp}
-use Rattle.control_vectors.specs.Slots.{Slot, Cell, in_128_bits, or_over}
+use Rattle.control_vectors.specs.Slots.{in_128_bits, or_over}
 use Rattle.sql_values.specs.Texts.{by_bytes, is_below}
 use Rattle.sql_values.proofs.Orders.{text_order}
 use Rattle.dict_codes.specs.Dictionaries.{rank_in, is_among}
@@ -60,8 +60,10 @@ rank_above (x ∷ texts) s t h m = by (rank_above texts s t h) (bytes_eq s x) re
   where
     left : rank_in (x ∷ texts) s ≡ one_if (is_below x s) + rank_in texts s
     left = rank_more x texts s
+
     right : rank_in (x ∷ texts) t ≡ one_if (is_below x t) + rank_in texts t
     right = rank_more x texts t
+
     by : (is_among texts s ≡ true → rank_in texts s < rank_in texts t) → (b : Bool) → bytes_eq s x ≡ b → rank_in (x ∷ texts) s < rank_in (x ∷ texts) t
     by later true e =
         let same = same_text s x e in
@@ -134,11 +136,13 @@ number_fits texts t h = by (is_among texts t) refl
   where
     plain : (n : ℕ) → n < 2 ^ 127 → in_128_bits (pos n) ≡ Some (pos n)
     plain n h = ap (λ (b : Bool). if b then Some (pos n) else None) (lt-ltb n (2 ^ 127) h)
+
     small : (n : ℕ) → n < 2 ^ 32 → in_128_bits (pos (2 * n) -ℤ pos 1) ≡ Some (pos (2 * n) -ℤ pos 1)
     small zero h = refl
     small (suc n) h =
         let is : pos (2 * suc n) -ℤ pos 1 ≡ pos (2 * n + 1) = omega (arith, ints) in
         rw is (plain (2 * n + 1) (omega arith))
+
     by : (b : Bool) → is_among texts t ≡ b → in_128_bits (text_number texts t) ≡ Some (text_number texts t)
     by true e = rw (number_among texts t e) (plain (rank_in texts t) (let least = rank_below texts t h in omega arith))
     by false e = rw (number_absent texts t e) (small (rank_in texts t) (rank_below texts t h))

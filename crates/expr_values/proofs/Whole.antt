@@ -2,12 +2,11 @@
 use Rattle.std.proofs.Common.{◌≡◌, ℕ, ◌+◌, ◌-◌, ◌==◌, ℤ, pos, is_some, Bool, true, false, not, ◌&&◌, List, [], ◌∷◌, ◌++◌, map, length, get_or, Option, Some, None, Result, Ok, Err, IfOk, IsOkAnd, refl, sym, ap, ◌∙◌, subst, arith, length-append}
 use Rattle.std.specs.Bool.{then_some}
 use Rattle.std.specs.List.{list_all}
-use Rattle.std.specs.Option.{option_and_then, option_or}
-use Rattle.control_vectors.specs.Slots.{Slot, Cell, fits_128}
+use Rattle.std.specs.Option.{option_and_then}
+use Rattle.control_vectors.specs.Slots.{Slot, Cell}
 use Rattle.control_vectors.specs.declared.Over.{Over}
 use Rattle.control_vectors.specs.declared.PairKind.TheVariants as pair
 use Rattle.slot_wise.specs.Pairs.{pair_slot}
-use Rattle.sql_values.specs.Values.{Value, number, text, truth, null}
 use Rattle.query_trees.specs.declared.expr.BinaryOp.{BinaryOp}
 use Rattle.query_trees.specs.declared.expr.BinaryOp.TheVariants as op
 use Rattle.query_trees.specs.declared.expr.Polarity.{Polarity}
@@ -22,36 +21,35 @@ use Rattle.typed_trees.specs.declared.typed.ColumnType.{ColumnType}
 use Rattle.typed_trees.specs.declared.typed.TypedExpr.{TypedExpr, roll-TypedExpr}
 use Rattle.typed_trees.specs.declared.typed.TypedExpr.TheOpen.{TypedExpr-F}
 use Rattle.typed_trees.specs.declared.typed.TypedExpr.TheFolds.{map-TypedExpr, ind-TypedExpr}
-use Rattle.typed_trees.specs.Kinds.{is_number, is_truth, same_kind, compare, family_of, role_in, takes, makes}
+use Rattle.typed_trees.specs.Kinds.{is_number, is_truth, same_kind, family_of, role_in, takes, makes}
 use Rattle.typed_trees.specs.Scales.{binary_scale, greatest, scale_of}
 use Rattle.typed_trees.specs.Sides.{form_stands, stands}
 use Rattle.typed_trees.specs.Types.{DataType, typed_as, truth as truth_type, number_type, not_type, scale_fits, binary_type, compares_with, tested_type, null_test_type, choice_type, all_types, with_types, form_type, type_of}
 use Rattle.typed_trees.proofs.Inversions.{some_same, passed, chosen, first_typed}
 use Rattle.typed_trees.proofs.SideForms.{stands_roll}
 use Rattle.typed_trees.proofs.TypeForms.{type_roll}
-use Rattle.typed_values.specs.Values.{Valued, On, Operand, with, exact, by_polarity, among, all_at_one_scale, first_there, form_value, value}
+use Rattle.typed_values.specs.Values.{Valued, On, Operand, with, exact, by_polarity, among, all_at_one_scale, first_there, value}
 use Rattle.typed_values.proofs.Evaluations.{evaluated, value_roll}
 use Rattle.value_laws.specs.Laws.{IsOf, KindLaw}
-use Rattle.expr_steps.specs.declared.steps.Source.{Source}
 use Rattle.expr_steps.specs.declared.steps.Source.TheVariants.{Made, Column, Aggregate}
 use Rattle.expr_steps.specs.Codes.{Code, from_source, one, and_then}
 use Rattle.expr_steps.specs.Lowered.{Bytes, Part, text_number, literal_of, part_of, lowered, constants, steps_of}
 use Rattle.expr_steps.specs.Lowered as codes
 use Rattle.expr_steps.proofs.Forms.{lowered_roll}
 use Rattle.expr_values.specs.Laws.{is_known, StandsFor, CanStand, value_slot, StandsAt, value_cell, IsLowerable, ValueLaw, KnownLaw}
-use Rattle.expr_values.specs.Places.{Place, with_cell, made_by, last_cell, steps_cell}
+use Rattle.expr_values.specs.Places.{Place, with_cell, made_by, last_cell}
 use Rattle.expr_values.specs.Written.{fits_127, is_scale, is_written}
 use Rattle.expr_values.proofs.Codes.{Begins, Makes, Gives, then_cell, then_made, made_append, next_number, now, source_gives, one_gives, then_gives, as_cell}
 use Rattle.expr_values.proofs.Names.{column_named, aggregate_named}
 use Rattle.expr_values.proofs.Texts.{number_fits}
-use Rattle.expr_values.proofs.Numbers.{slot_itself, slot_same}
+use Rattle.expr_values.proofs.Numbers.{slot_itself, slot_equal}
 use Rattle.expr_values.proofs.Scales.{and_left, and_right, same_is, written_roll}
 use Rattle.expr_values.proofs.Operands.{part_cell, IsText}
 use Rattle.expr_values.proofs.Between.{between_gives}
-use Rattle.expr_values.proofs.Lists.{Member, member_part, member_operand, among_none, among_gives}
+use Rattle.expr_values.proofs.Lists.{member_part, among_none, among_gives}
 use Rattle.expr_values.proofs.Choices.{Sole, sole_part, sole_operand, choice_gives, choice_known}
 use Rattle.expr_values.proofs.Fits.{World, Fits, ColumnFits, AggregateFits, one_fits, left_fits, right_fits, tested_fits, least_fits, most_fits, in_first_fits, in_others_fit, choice_first_fits, choice_others_fit}
-use Rattle.expr_values.proofs.Sound.{literal_roll, alone_literal, Done, Sound, ReadyAt, ready, alone, as_kind, Elements, exprs, AllStand, Gathered, gathered, Alones, alones, plain_part, texty, known_of, value_at, code_at, done_form}
+use Rattle.expr_values.proofs.Sound.{literal_roll, alone_literal, Done, Sound, ReadyAt, ready, alone, as_kind, Elements, exprs, Gathered, gathered, alones, plain_part, texty, known_of, value_at, done_form}
 use Rattle.expr_values.proofs.Forms.{literal_gives, fits_is, number_gives, sign_form, not_form, quotient_form, null_form, binary_form}
 
 -- ---- layers
@@ -99,7 +97,7 @@ text_sound w t type role is s f =
     record {
       text = subst (λ (l : Option Bytes). IsText w.texts l (value w.on e)) (sym (literal_roll d)) (value_roll w.on d);
       gives = λ made b. subst (λ (l : Option Bytes). Gives w.place made (lowered w.texts e) (part_cell w.texts l (value w.on e))) (sym (literal_roll d))
-      (subst (λ (m : Code). Gives w.place made m (Ok (Some (text_number w.texts t)))) (sym (lowered_roll w.texts d)) (literal_gives w.place (text_number w.texts t) (number_fits w.texts t w.few) made b));
+          (subst (λ (m : Code). Gives w.place made m (Ok (Some (text_number w.texts t)))) (sym (lowered_roll w.texts d)) (literal_gives w.place (text_number w.texts t) (number_fits w.texts t w.few) made b));
     }
 
 date_sound : (w : World) (day : ℤ) → Sound w (roll-TypedExpr (TypedExpr-F.Date day))
@@ -122,6 +120,7 @@ aggregate_sound w n scale =
     known : (r : Valued) → StandsFor w.texts (w.place.aggregate n) r → IfOk r (λ v. is_known w.texts v ≡ true)
     known (Ok v) h = h.1
     known (Err e) h = tt
+
     stands_there : (made : List Slot) (r : Valued) → StandsFor w.texts (w.place.aggregate n) r → Gives w.place made (from_source (Aggregate n)) (value_cell w.texts r)
     stands_there made (Ok v) h = source_gives w.place made (Aggregate n) (coded w.texts v) (λ more. h.0)
     stands_there made (Err e) h = absurd h
@@ -186,6 +185,13 @@ binary_sound w o x y first second =
 same_compared : (s u : DataType) → compares_with s u ≡ true → (s.kind ≡ u.kind) × (not (is_truth s.kind) ≡ true)
 same_compared s u h = (same_is s.kind u.kind (and_left (same_kind s.kind u.kind) (not (is_truth s.kind)) h), and_right (same_kind s.kind u.kind) (not (is_truth s.kind)) h)
 
+-- the types of two operands
+two_typed : (a b : Option DataType) (ts : List DataType) → all_types (a ∷ b ∷ []) ≡ Some ts → (u : DataType) × (v : DataType) × (a ≡ Some u) × (b ≡ Some v) × (u ∷ v ∷ [] ≡ ts)
+two_typed a b ts e =
+    let low = first_typed a (b ∷ []) ts e in
+    let high = first_typed b [] low.1 low.3 in
+    (low.0, high.0, low.2, high.2, (λ i. low.0 ∷ high.0 ∷ some_same [] high.1 high.3 i) ∙ (ap (λ (l : List DataType). low.0 ∷ l) high.4 ∙ low.4))
+
 between_sound : (w : World) (p : Polarity) (x y z : TypedExpr) → Sound w x → Sound w y → Sound w z → Sound w (roll-TypedExpr (TypedExpr-F.Between p x y z))
 between_sound w p x y z a b c =
     let d = TypedExpr-F.Between p x y z in
@@ -195,12 +201,13 @@ between_sound w p x y z a b c =
     let s = found.0 in
     let others = chosen (all_types types) (tested_type s) t found.2 in
     let is = passed (list_all (compares_with s) others.0) truth_type t others.2 in
-    let low = first_typed (type_of w.at y) (type_of w.at z ∷ []) others.0 others.1 in
-    let high = first_typed (type_of w.at z) [] low.1 low.3 in
-    let alike : list_all (compares_with s) (low.0 ∷ (high.0 ∷ high.1)) ≡ true = ap (λ (l : List DataType). list_all (compares_with s) (low.0 ∷ l)) high.4 ∙ (ap (list_all (compares_with s)) low.4 ∙ is.0) in
-    let more = and_right (compares_with s low.0) (list_all (compares_with s) (high.0 ∷ high.1)) alike in
-    let below = same_compared s low.0 (and_left (compares_with s low.0) (list_all (compares_with s) (high.0 ∷ high.1)) alike) in
-    let above = same_compared s high.0 (and_left (compares_with s high.0) (list_all (compares_with s) high.1) more) in
+    let two_are = two_typed (type_of w.at y) (type_of w.at z) others.0 others.1 in
+    let low = two_are.0 in
+    let high = two_are.1 in
+    let alike : list_all (compares_with s) (low ∷ high ∷ []) ≡ true = ap (list_all (compares_with s)) two_are.4 ∙ is.0 in
+    let more = and_right (compares_with s low) (list_all (compares_with s) (high ∷ [])) alike in
+    let below = same_compared s low (and_left (compares_with s low) (list_all (compares_with s) (high ∷ [])) alike) in
+    let above = same_compared s high (and_left (compares_with s high) true more) in
     let sx = and_left (stands x Side) (stands y Side && stands z Side) side in
     let rest = and_right (stands x Side) (stands y Side && stands z Side) side in
     let sy = and_left (stands y Side) (stands z Side) rest in
@@ -208,8 +215,8 @@ between_sound w p x y z a b c =
     done_form w d refl (known_of w.texts t.kind (value_at w d) (not_texty truth_type t is.1 refl) of)
     (between_gives w.texts w.place s.kind p (literal_of x) (literal_of y) (literal_of z) (scale_of x) (scale_of y) (scale_of z) (value w.on x) (value w.on y) (value w.on z) (lowered w.texts x) (lowered w.texts y) (lowered w.texts z) w.few below.1
     (ready w x s Side a found.1 sx (tested_fits w p x y z f))
-    (as_kind w y s.kind low.0.kind (literal_of y) (sym below.0) (ready w y low.0 Side b low.2 sy (least_fits w p x y z f)))
-    (as_kind w z s.kind high.0.kind (literal_of z) (sym above.0) (ready w z high.0 Side c high.2 sz (most_fits w p x y z f)))))
+    (as_kind w y s.kind low.kind (literal_of y) (sym below.0) (ready w y low Side b two_are.2 sy (least_fits w p x y z f)))
+    (as_kind w z s.kind high.kind (literal_of z) (sym above.0) (ready w z high Side c two_are.3 sz (most_fits w p x y z f)))))
 
 -- ---- lists of operands
 
@@ -322,7 +329,7 @@ mark_there : (p : Place) (mark : Slot) → p.mark ≡ mark → is_some mark ≡ 
 mark_there p None e h = absurd (cc)
 mark_there p (Some z) e h =
     (λ i. with_cell [] (pair_slot pair.Greater (e i) (e i)) (λ l. with_cell l (pair_slot pair.Equals (e i) (e i)) (λ k. Ok k)))
-    ∙ (λ i. with_cell [] (slot_itself z i) (λ l. with_cell l (slot_same z i) (λ k. Ok k)))
+    ∙ (λ i. with_cell [] (slot_itself z i) (λ l. with_cell l (slot_equal z i) (λ k. Ok k)))
 
 -- ---- the laws
 

@@ -1,6 +1,6 @@
 -- What the steps of an expression make at one place of a vector, in order: each a slot, or Over.
 -- After SQL-92 (ISO/IEC 9075:1992), 6.11 <value expression>; the operators are those of Voodoo, PVLDB 9(14), 2016, table 2.
-use Rattle.std.specs.Prelude.{ℕ, ◌-◌, List, [], ◌∷◌, ◌++◌, length, slice_index_or, Option, Some, None, Result, Ok, Err}
+use Rattle.std.specs.Prelude.{ℕ, ◌-◌, List, [], ◌∷◌, ◌++◌, length, slice_index_or, Some, None, Result, Ok, Err}
 use Rattle.control_vectors.specs.Slots.{Slot, Cell}
 use Rattle.control_vectors.specs.declared.Over.{Over}
 use Rattle.slot_wise.specs.Pairs.{pair_slot}
