@@ -1,5 +1,5 @@
 -- The laws of checks, part by part: parts compose, and each operator passes where the vectors that it reads have the paths that it reads.
-use Rattle.std.specs.Prelude.{◌≡◌, ℕ, ◌≤◌, ◌^◌, Bool, true, false, List, [], ◌∷◌, ◌++◌, All, length, ⊥, Some, None}
+use Rattle.std.specs.Prelude.{◌≡◌, ℕ, ◌≤◌, ◌^◌, Bool, true, false, List, [], ◌∷◌, ◌++◌, All, length, ◌<◌, Some, None}
 use Rattle.control_vectors.specs.Controls.{Control}
 use Rattle.control_vectors.specs.declared.PairKind.{PairKind}
 use Rattle.key_paths.specs.Substructures.{is_root, is_at_or_below}
@@ -40,6 +40,7 @@ Shaped len paths name shapes = HasShape shapes name len paths
 
 -- a path that may be an attribute by itself
 pub record IsAttribute (p : Label) : Type 0 where
+  pub some : 0 < length p
   pub below_root : is_root p ≡ false
   pub shallow : is_deep p ≡ false
 

@@ -1,2 +1,4 @@
 //! The laws of checks, part by part.
 #![tactic(auto)]
+
+pub mod laws;

@@ -1,0 +1,4 @@
+pub mod Composing
+pub mod Making
+pub mod Outlined
+pub mod Operators
