@@ -14,3 +14,4 @@ mod Sound
 mod Forms
 mod Whole
 mod Blank
+pub mod AggregateScales
