@@ -23,7 +23,7 @@ use Rattle.expr_steps.specs.declared.steps.Factors.{Factors}
 use Rattle.expr_steps.specs.declared.steps.Source.{Source}
 use Rattle.expr_steps.specs.declared.steps.Source.TheVariants.{Column, Aggregate, Made, Number}
 use Rattle.expr_steps.specs.Codes.{Code, Coded, from_source, pair_step, one, and_then}
-use Rattle.expr_steps.specs.Lowered.{Bytes, Part, part_of, lowered, form_code, zero as nought, unit, opposite, constants, constant, times, raise, factors, scale_factors, brought_together, comparing, compared, compared_as, truth_source, binary, sign_step, divided, divisor, null_test, outside, unless_negated, by_polarity, any_equal, or_equal, found_equal, first_there, filled, filled_from, most_scale}
+use Rattle.expr_steps.specs.Lowered.{Bytes, Part, part_of, lowered, form_code, zero as nought, unit, opposite, constants, constant, times, raise, factors, scale_factors, brought_together, comparing, compared, compared_as, truth_source, binary, sign_step, divided, divisor, null_test, outside, unless_negated, by_polarity, any_equal, found_among, or_equal, found_equal, first_there, filled, filled_from, most_scale}
 use Rattle.expr_steps.proofs.Forms.{lowered_roll}
 use Rattle.expr_values.specs.Places.{Place, slot_from, step_cell, with_cell, made_by, last_cell}
 use Rattle.expr_values.specs.Laws.{BlankLaw}
@@ -142,7 +142,9 @@ truth_blank p true = made_blank p 1
 truth_blank p false = made_blank p 0
 
 compared_blank : (p : Place) (o : BinaryOp) (s t : Option Bytes) (f : Factors) (a b : Source) → BlankSource p a → BlankSource p b → LeavesBlank p (compared_as o s t f a b)
-compared_blank p o (Some s) (Some t) f a b h g = source_blank p (truth_source (holds o (by_bytes s t))) (truth_blank p (holds o (by_bytes s t)))
+compared_blank p o (Some s) (Some t) f a b h g =
+    let is = holds o (by_bytes s t) in
+    then_blank p (one pair.Fill (truth_source is) a) (λ x. one pair.Fill x b) (both_blank p pair.Fill (truth_source is) a (truth_blank p is) h) (λ x q. both_blank p pair.Fill x b q g)
 compared_blank p o (Some s) None f a b h g = brought_blank p f a b (comparing o) h g (comparing_blank p o)
 compared_blank p o None (Some t) f a b h g = brought_blank p f a b (comparing o) h g (comparing_blank p o)
 compared_blank p o None None f a b h g = brought_blank p f a b (comparing o) h g (comparing_blank p o)
@@ -209,6 +211,10 @@ any_blank texts p x a (y ∷ ys) found h g b =
     (then_blank p (lowered texts y.0) (found_equal texts x a py found) (y.1 first) (λ c k. found_blank texts p x py a found c h g k))
     (λ next k. any_blank texts p x a ys next h k rest)
 
+among_blank : (texts : List Bytes) (p : Place) (x : Part) (a : Source) (ys : Elements texts p) → BlankSource p a → AllBlank p (exprs texts p ys) → LeavesBlank p (found_among texts x a (map (part_of texts) (exprs texts p ys)))
+among_blank texts p x a [] h b = both_blank p pair.Fill nought a (made_blank p 0) h
+among_blank texts p x a (y ∷ ys) h b = any_blank texts p x a (y ∷ ys) nought h (made_blank p 0) b
+
 first_blank : (texts : List Bytes) (p : Place) (to : ℕ) (ys : Elements texts p) (found : Source) → BlankSource p found → AllBlank p (exprs texts p ys) → LeavesBlank p (first_there to (map (part_of texts) (exprs texts p ys)) found)
 first_blank texts p to [] found g b = source_blank p found g
 first_blank texts p to (y ∷ ys) found g b =
@@ -253,8 +259,8 @@ by_layer texts p (TypedExpr-F.In by x ys) =
     by_form texts p (TypedExpr-F.In by x.0 (exprs texts p ys)) (λ b.
     let px = part_of texts x.0 in
     let pys = map (part_of texts) (exprs texts p ys) in
-    then_blank p (lowered texts x.0) (λ a. and_then (any_equal texts px a pys nought) (by_polarity by)) (x.1 (in_first_named (λ c. p.column c ≡ None) (λ n. p.aggregate n ≡ None) by x.0 (exprs texts p ys) b))
-    (λ a h. then_blank p (any_equal texts px a pys nought) (by_polarity by) (any_blank texts p px a ys nought h (made_blank p 0) (in_others_named (λ c. p.column c ≡ None) (λ n. p.aggregate n ≡ None) by x.0 (exprs texts p ys) b)) (polarity_blank p by)))
+    then_blank p (lowered texts x.0) (λ a. and_then (found_among texts px a pys) (by_polarity by)) (x.1 (in_first_named (λ c. p.column c ≡ None) (λ n. p.aggregate n ≡ None) by x.0 (exprs texts p ys) b))
+    (λ a h. then_blank p (found_among texts px a pys) (by_polarity by) (among_blank texts p px a ys h (in_others_named (λ c. p.column c ≡ None) (λ n. p.aggregate n ≡ None) by x.0 (exprs texts p ys) b)) (polarity_blank p by)))
 by_layer texts p (TypedExpr-F.IsNull by x) = let d = TypedExpr-F.IsNull by x.0 in by_form texts p d (of_one texts p x d (null_test by) (λ column aggregate h. h) (null_blank p by))
 by_layer texts p (TypedExpr-F.Coalesce x ys) =
     by_form texts p (TypedExpr-F.Coalesce x.0 (exprs texts p ys)) (λ b.

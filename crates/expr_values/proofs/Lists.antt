@@ -153,32 +153,33 @@ over_among texts p by a e (y ∷ ys) = refl
 pub among_none : (texts : List Bytes) (p : Place) (k : Kind) (by : Polarity) (s : Option Bytes) (a : ℕ) (q : Valued) (m : Code) (x : Ready texts p k s a q m) (made : List Slot) → Begins p made →
     Gives p made (codes.among texts by (part_at a s m) []) (value_cell texts (with (among (operand_of a q) []) (λ v. Ok (by_polarity by v))))
 among_none texts p k by (Some t) a (Err e) m x made begins = absurd (let no = not_err e (text t) x.text in cc)
-among_none texts p k by None a (Err e) m x made begins = then_gives p made m (λ at. and_then (from_source codes.zero) (codes.by_polarity by)) (Err e) (λ t. Err e) (x.gives made begins) (λ l later z t is j. absurd (let no = never e t is in cc))
+among_none texts p k by None a (Err e) m x made begins = then_gives p made m (λ at. and_then (one pair.Fill codes.zero at) (codes.by_polarity by)) (Err e) (λ t. Err e) (x.gives made begins) (λ l later z t is j. absurd (let no = never e t is in cc))
 among_none texts p k by s a (Ok v) m x made begins =
-    let inner = λ (at : Source). and_then (from_source codes.zero) (codes.by_polarity by) in
+    let inner = λ (at : Source). and_then (one pair.Fill codes.zero at) (codes.by_polarity by) in
     as_cell p made (and_then m inner) (then_cell (part_cell texts s (Ok v)) (λ u. polarity_cell by (Some (pos 0)))) (value_cell texts (Ok (by_polarity by (truth false))))
     (ap (λ (c : Cell). then_cell c (λ u. polarity_cell by (Some (pos 0)))) (side_is texts s v) ∙ polarity_coded texts by (truth false) refl)
     (then_gives p made m inner (part_cell texts s (Ok v)) (λ u. polarity_cell by (Some (pos 0))) (x.gives made begins)
     (λ l later at u is stands.
     let ready = begins_later p made l later begins in
-    then_gives p l (from_source codes.zero) (codes.by_polarity by) (Ok (Some (pos 0))) (polarity_cell by) (source_gives p l codes.zero (Some (pos 0)) ready.zero) (λ j further y t was i. polarity_gives p j by y t i)))
+    then_gives p l (one pair.Fill codes.zero at) (codes.by_polarity by) (pair_slot pair.Fill (Some (pos 0)) u) (polarity_cell by) (one_gives p l pair.Fill codes.zero at (Some (pos 0)) u ready.zero stands) (λ j further y t was i. polarity_gives p j by y t i)))
 
 pub among_gives : (texts : List Bytes) (p : Place) (k : Kind) (by : Polarity) (s : Option Bytes) (a : ℕ) (q : Valued) (m : Code) (x : Ready texts p k s a q m) (ys : List (Member texts p k)) → length texts < 2 ^ 32 → not (is_truth k) ≡ true → (made : List Slot) → Begins p made →
     Gives p made (codes.among texts by (part_at a s m) (map (member_part texts p k) ys)) (value_cell texts (with (among (operand_of a q) (map (member_operand texts p k) ys)) (λ v. Ok (by_polarity by v))))
-among_gives texts p k by (Some t) a (Err e) m x ys few truthless made begins = absurd (let no = not_err e (text t) x.text in cc)
-among_gives texts p k by None a (Err e) m x ys few truthless made begins =
-    as_cell p made (codes.among texts by (part_at a None m) (map (member_part texts p k) ys)) (Err e) (value_cell texts (with (among (operand_of a (Err e)) (map (member_operand texts p k) ys)) (λ v. Ok (by_polarity by v)))) (over_among texts p by a e (map (member_operand texts p k) ys))
-    (then_gives p made m (λ at. and_then (any_equal texts (part_at a None m) at (map (member_part texts p k) ys) codes.zero) (codes.by_polarity by)) (Err e) (λ t. Err e) (x.gives made begins) (λ l later z t is j. absurd (let no = never e t is in cc)))
-among_gives texts p k by s a (Ok v) m x ys few truthless made begins =
-    let pys = map (member_part texts p k) ys in
-    let whole = among (operand_of a (Ok v)) (map (member_operand texts p k) ys) in
+among_gives texts p k by s a q m x [] few truthless made begins = among_none texts p k by s a q m x made begins
+among_gives texts p k by (Some t) a (Err e) m x (y ∷ ys) few truthless made begins = absurd (let no = not_err e (text t) x.text in cc)
+among_gives texts p k by None a (Err e) m x (y ∷ ys) few truthless made begins =
+    as_cell p made (codes.among texts by (part_at a None m) (map (member_part texts p k) (y ∷ ys))) (Err e) (value_cell texts (with (among (operand_of a (Err e)) (map (member_operand texts p k) (y ∷ ys))) (λ v. Ok (by_polarity by v)))) (over_among texts p by a e (map (member_operand texts p k) (y ∷ ys)))
+    (then_gives p made m (λ at. and_then (any_equal texts (part_at a None m) at (map (member_part texts p k) (y ∷ ys)) codes.zero) (codes.by_polarity by)) (Err e) (λ t. Err e) (x.gives made begins) (λ l later z t is j. absurd (let no = never e t is in cc)))
+among_gives texts p k by s a (Ok v) m x (y ∷ ys) few truthless made begins =
+    let pys = map (member_part texts p k) (y ∷ ys) in
+    let whole = among (operand_of a (Ok v)) (map (member_operand texts p k) (y ∷ ys)) in
     let inner = λ (at : Source). and_then (any_equal texts (part_at a s m) at pys codes.zero) (codes.by_polarity by) in
     let cell = value_cell texts (with whole (λ w. Ok (either (truth false) w))) in
     as_cell p made (and_then m inner) (then_cell (part_cell texts s (Ok v)) (λ u. then_cell cell (polarity_cell by))) (value_cell texts (with whole (λ v. Ok (by_polarity by v))))
-    (ap (λ (c : Cell). then_cell c (λ u. then_cell cell (polarity_cell by))) (side_is texts s v) ∙ from_false texts by whole (among_of (operand_of a (Ok v)) (map (member_operand texts p k) ys)))
+    (ap (λ (c : Cell). then_cell c (λ u. then_cell cell (polarity_cell by))) (side_is texts s v) ∙ from_false texts by whole (among_of (operand_of a (Ok v)) (map (member_operand texts p k) (y ∷ ys))))
     (then_gives p made m inner (part_cell texts s (Ok v)) (λ u. then_cell cell (polarity_cell by)) (x.gives made begins)
     (λ l later at u is stands.
     let ready = begins_later p made l later begins in
     let here = subst (λ (t : Slot). Stands p l at t) (sym (slot_same (side_slot texts s v) u (sym (side_is texts s v) ∙ is))) stands in
-    then_gives p l (any_equal texts (part_at a s m) at pys codes.zero) (codes.by_polarity by) cell (polarity_cell by) (any_gives texts p k s a v m x ys few truthless l at codes.zero (truth false) ready refl here ready.zero)
+    then_gives p l (any_equal texts (part_at a s m) at pys codes.zero) (codes.by_polarity by) cell (polarity_cell by) (any_gives texts p k s a v m x (y ∷ ys) few truthless l at codes.zero (truth false) ready refl here ready.zero)
     (λ j further y t was i. polarity_gives p j by y t i)))

@@ -3,6 +3,9 @@ use Rattle.std.proofs.Common.{Ordering, ◌≡◌, ℕ, ◌-◌, ◌*◌, ◌^�
 use Rattle.std.proofs.lemmas.Bool.{leb-true, eqb-true}
 use Rattle.std.specs.Ordering.{int_cmp}
 use Rattle.control_vectors.specs.Slots.{Slot, Cell}
+use Rattle.control_vectors.specs.declared.PairKind.TheVariants as pair
+use Rattle.slot_wise.specs.Pairs.{pair_slot}
+use Rattle.expr_steps.specs.Codes.{one}
 use Rattle.sql_values.specs.Texts.{by_bytes}
 use Rattle.sql_values.specs.Values.{Value, number, text, truth, null}
 use Rattle.query_trees.specs.declared.expr.BinaryOp.{BinaryOp}
@@ -16,11 +19,11 @@ use Rattle.typed_values.specs.Values.{Valued, with_both, holds, comparison, resc
 use Rattle.value_laws.specs.Laws.{is_of}
 use Rattle.expr_steps.specs.declared.steps.Factors.{Factors}
 use Rattle.expr_steps.specs.declared.steps.Source.{Source}
-use Rattle.expr_steps.specs.Lowered.{Bytes, text_number, raise, scale_factors, factors_of, steps_a_code, comparing, compared_as, truth_source}
+use Rattle.expr_steps.specs.Lowered.{Bytes, text_number, raise, scale_factors, factors_of, steps_a_code, comparing, compared_as, truth_source, known}
 use Rattle.expr_values.specs.Laws.{is_known, value_cell}
 use Rattle.expr_values.specs.Places.{Place}
 use Rattle.expr_values.specs.Written.{kind_scale}
-use Rattle.expr_values.proofs.Codes.{Stands, Begins, Gives, then_cell, source_gives}
+use Rattle.expr_values.proofs.Codes.{Stands, Begins, Gives, then_cell, one_gives, then_gives}
 use Rattle.expr_values.proofs.Cells.{times_cell, brought_cell, brought_gives, comparing_cell, comparing_gives}
 use Rattle.expr_values.proofs.Numbers.{two_cells, numeric, IsNumeric, times_numeric, rescaled_numeric, comparing_numbers, comparing_numeric, none_left, none_right}
 use Rattle.expr_values.proofs.Texts.{codes_compare, halves_compare, halves_beside, doubled, number_among, number_absent}
@@ -49,13 +52,18 @@ compare_cell texts o (Some s) None m n u v = brought_cell (factors_of texts (Som
 compare_cell texts o None (Some t) m n u v = brought_cell (factors_of texts None (Some t) m n) u v (comparing_cell o)
 compare_cell texts o None None m n u v = brought_cell (factors_of texts None None m n) u v (comparing_cell o)
 
-truth_stands : (texts : List Bytes) (p : Place) (l : List Slot) (b : Bool) → Begins p l → Stands p l (truth_source b) (coded texts (truth b))
-truth_stands texts p l true h = h.unit
-truth_stands texts p l false h = h.zero
+-- two literals are read, and the truth stays
+known_gives : (texts : List Bytes) (p : Place) (l : List Slot) (is : Bool) (a b : Source) (u v : Slot) → Begins p l → Stands p l a u → Stands p l b v → Gives p l (known is a b) (value_cell texts (Ok (truth is)))
+known_gives texts p l true a b u v h g k =
+    then_gives p l (one pair.Fill (truth_source true) a) (λ x. one pair.Fill x b) (pair_slot pair.Fill (Some (pos 1)) u) (λ t. pair_slot pair.Fill t v) (one_gives p l pair.Fill (truth_source true) a (Some (pos 1)) u h.unit g)
+    (λ m later y t e i. one_gives p m pair.Fill y b t v i (later b v k))
+known_gives texts p l false a b u v h g k =
+    then_gives p l (one pair.Fill (truth_source false) a) (λ x. one pair.Fill x b) (pair_slot pair.Fill (Some (pos 0)) u) (λ t. pair_slot pair.Fill t v) (one_gives p l pair.Fill (truth_source false) a (Some (pos 0)) u h.zero g)
+    (λ m later y t e i. one_gives p m pair.Fill y b t v i (later b v k))
 
 pub compare_gives : (texts : List Bytes) (p : Place) (l : List Slot) (o : BinaryOp) (s t : Option Bytes) (m n : ℕ) (a b : Source) (u v : Slot) → Begins p l → Stands p l a u → Stands p l b v →
     Gives p l (compared_as o s t (factors_of texts s t m n) a b) (compare_cell texts o s t m n u v)
-compare_gives texts p l o (Some s) (Some t) m n a b u v h g k = let is = holds o (by_bytes s t) in source_gives p l (truth_source is) (coded texts (truth is)) (truth_stands texts p l is h)
+compare_gives texts p l o (Some s) (Some t) m n a b u v h g k = known_gives texts p l (holds o (by_bytes s t)) a b u v h g k
 compare_gives texts p l o (Some s) None m n a b u v h g k = brought_gives p l (factors_of texts (Some s) None m n) a b u v (comparing o) (comparing_cell o) g k (λ j x y q r. comparing_gives p j o x y q r)
 compare_gives texts p l o None (Some t) m n a b u v h g k = brought_gives p l (factors_of texts None (Some t) m n) a b u v (comparing o) (comparing_cell o) g k (λ j x y q r. comparing_gives p j o x y q r)
 compare_gives texts p l o None None m n a b u v h g k = brought_gives p l (factors_of texts None None m n) a b u v (comparing o) (comparing_cell o) g k (λ j x y q r. comparing_gives p j o x y q r)
