@@ -142,7 +142,7 @@ none_below p (x ∷ xs) e =
     let parts = and_parts (apart p x) (list_all (apart p) xs) e in
     ap (λ (b : Bool). if b then x ∷ filter (λ y. is_at_or_below y p) xs else filter (λ y. is_at_or_below y p) xs) (apart_parts p x parts.0).1 ∙ none_below p xs parts.1
 
-all_member : (f : Label → Bool) (xs : List Label) (x : Label) → list_all f xs ≡ true → has_name xs x ≡ true → f x ≡ true
+pub all_member : (f : Label → Bool) (xs : List Label) (x : Label) → list_all f xs ≡ true → has_name xs x ≡ true → f x ≡ true
 all_member f [] x e h = absurd cc
 all_member f (y ∷ ys) x e h = let parts = and_parts (f y) (list_all f ys) e in by parts.0 (λ t. all_member f ys x parts.1 t) (bytes_eq y x) refl h
   where

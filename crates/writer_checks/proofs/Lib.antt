@@ -5,3 +5,6 @@ pub mod Operators
 pub mod Attributes
 pub mod Changes
 pub mod Passing
+pub mod Segments
+pub mod Above
+pub mod Routes
