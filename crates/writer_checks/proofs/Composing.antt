@@ -10,7 +10,7 @@ use Rattle.program_writers.proofs.Numbers.{below_more}
 use Rattle.writer_checks.specs.Checks.{IsFresh, HasShape, Passes}
 use Rattle.writer_checks.specs.Laws.{ComposeLaws, KeptLaw}
 
-tell_passes : (A : Type 0) (tables : Shapes) (a : A) (k : ℕ) (known : Known) (P : A → Shapes → Type 0) → IsFresh k known.vectors → P a known.vectors → Passes tables (tell a) k known P
+pub tell_passes : (A : Type 0) (tables : Shapes) (a : A) (k : ℕ) (known : Known) (P : A → Shapes → Type 0) → IsFresh k known.vectors → P a known.vectors → Passes tables (tell a) k known P
 tell_passes A tables a k known P fresh holds = record {
   after = known;
   passes = refl;
@@ -22,7 +22,7 @@ tell_passes A tables a k known P fresh holds = record {
   ascends = le_refl k;
 }
 
-behind_passes : (A B : Type 0) (tables : Shapes) (m : Writer A) (f : A → Writer B) (k : ℕ) (known : Known) (P : A → Shapes → Type 0) (Q : B → Shapes → Type 0) (g : Passes tables m k known P) → Passes tables (f (m k).told) (m k).next g.after Q → Passes tables (m >>= f) k known Q
+pub behind_passes : (A B : Type 0) (tables : Shapes) (m : Writer A) (f : A → Writer B) (k : ℕ) (known : Known) (P : A → Shapes → Type 0) (Q : B → Shapes → Type 0) (g : Passes tables m k known P) → Passes tables (f (m k).told) (m k).next g.after Q → Passes tables (m >>= f) k known Q
 behind_passes A B tables m f k known P Q g h = record {
   after = h.after;
   passes = check_from-append tables (m k).statements (f (m k).told (m k).next).statements known ∙ ap (λ (r : Checked). then_check r (check_from tables (f (m k).told (m k).next).statements)) g.passes ∙ h.passes;

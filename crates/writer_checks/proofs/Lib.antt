@@ -8,3 +8,4 @@ pub mod Passing
 pub mod Segments
 pub mod Above
 pub mod Routes
+pub mod Going

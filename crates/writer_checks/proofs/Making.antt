@@ -68,7 +68,7 @@ fine_fault tables known n op o h none =
 fine_learned : (tables : Shapes) (known : Known) (n : Label) (op : Op) (o : Outline) → Fine tables known.vectors (family op) o → learn tables known n op ≡ with_vector known n o
 fine_learned tables known n op o h = ap (λ (m : Outline). known_behind known n op m) h.makes ∙ ap (λ (b : Bool). if b then with_result known n else with_vector known n o) h.shows
 
-fine_checked : (tables : Shapes) (known : Known) (n : Label) (op : Op) (o : Outline) → Fine tables known.vectors (family op) o → known.vectors n ≡ None → check_one tables known n op ≡ Ok (with_vector known n o)
+pub fine_checked : (tables : Shapes) (known : Known) (n : Label) (op : Op) (o : Outline) → Fine tables known.vectors (family op) o → known.vectors n ≡ None → check_one tables known n op ≡ Ok (with_vector known n o)
 fine_checked tables known n op o h none = ap (after_fault known (learn tables known n op)) (fine_fault tables known n op o h none) ∙ ap (λ (k : Known). Ok k) (fine_learned tables known n op o h)
 
 -- ---- it passes

@@ -32,6 +32,10 @@ pub record ComposeLaws : Type 1 where
 abbrev pub KeptLaw : Type 0
 KeptLaw = (before after : Shapes) (name : Label) (len : ℕ) (paths : List Label) → after name ≡ before name → HasShape before name len paths → HasShape after name len paths
 
+-- it also does where all names below some number are left alone
+abbrev pub StillLaw : Type 0
+StillLaw = (k : ℕ) (before after : Shapes) (name : Label) (len : ℕ) (paths : List Label) → IsFresh k before → ((n : Label) → IsBelow k n → after n ≡ before n) → HasShape before name len paths → HasShape after name len paths
+
 -- ---- operators, each under a word without digits
 
 -- the vector that is told has this length, and these paths among its own
