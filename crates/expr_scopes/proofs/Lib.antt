@@ -1,2 +1,7 @@
 pub mod Sound
 mod Pieces
+mod Operators
+mod Naming
+mod Lists
+mod Forms
+pub mod Whole

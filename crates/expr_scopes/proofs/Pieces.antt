@@ -1,5 +1,5 @@
 -- The pieces that each form is made of: each is sound, and reads its operands.
-use Rattle.std.proofs.Common.{◌≡◌, ℕ, ◌+◌, ◌≤◌, ℤ, pos, Bool, true, false, if◌then◌else◌, refl, arith}
+use Rattle.std.proofs.Common.{ℕ, ◌≤◌, ℤ, pos, Bool, true, false, if◌then◌else◌, arith}
 use Rattle.std.specs.Ordering.{int_eq}
 use Rattle.control_vectors.specs.declared.PairKind.{PairKind}
 use Rattle.control_vectors.specs.declared.PairKind.TheVariants as pair
@@ -14,7 +14,7 @@ use Rattle.expr_steps.specs.declared.steps.Source.{Source}
 use Rattle.expr_steps.specs.declared.steps.Source.TheVariants.{Number}
 use Rattle.expr_steps.specs.Codes.{Code, from_source, one, and_then}
 use Rattle.expr_steps.specs.Lowered.{zero, unit, truth_source, opposite, by_polarity, constant, times, brought_together, known, comparing, sign_step, divisor, divided, unless_negated, null_test}
-use Rattle.expr_scopes.specs.Scopes.{Names, IsBefore}
+use Rattle.expr_scopes.specs.Scopes.{Names}
 use Rattle.expr_scopes.specs.Laws.{Stands, IsSound}
 use Rattle.expr_scopes.proofs.Sound.{stands_later, stands_before, Reads, reads_first, reads_behind, sound_source, reads_source, sound_then, one_first, one_second, reads_x, reads_y}
 

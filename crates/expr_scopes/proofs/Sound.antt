@@ -1,14 +1,13 @@
 -- Pieces of code one behind another: what each reads, and what is read of each.
-use Rattle.std.proofs.Common.{◌≡◌, ℕ, ◌+◌, ◌<◌, ◌≤◌, ◌==◌, ◌⊎◌, inl, inr, Bool, true, false, ◌&&◌, ◌||◌, ℤ, pos, List, [], ◌∷◌, ◌++◌, length, refl, sym, ap, ◌∙◌, arith, subst, length-append}
-use Rattle.std.specs.List.{list_any}
+use Rattle.std.proofs.Common.{◌≡◌, ℕ, ◌+◌, ◌≤◌, ◌==◌, ◌⊎◌, inl, inr, Bool, true, false, ◌&&◌, ◌||◌, List, [], ◌∷◌, ◌++◌, length, refl, ap, ◌∙◌, arith, subst, length-append}
 use Rattle.std.proofs.lemmas.Bool.{or_left, or_right, or_cases, eq-eqb}
 use Rattle.std.proofs.lemmas.List.Folds.{list_any-append}
 use Rattle.control_vectors.specs.declared.PairKind.{PairKind}
 use Rattle.expr_steps.specs.declared.steps.Source.{Source}
 use Rattle.expr_steps.specs.declared.steps.Source.TheVariants.{Mark, Column, Aggregate, Made, Number}
 use Rattle.expr_steps.specs.declared.steps.Step.{Step}
-use Rattle.expr_steps.specs.Codes.{Code, Coded, from_source, pair_step, one, followed, and_then}
-use Rattle.expr_scopes.specs.Scopes.{Names, IsBefore, is_number, IsScoped, AreScoped, is_made, step_reads, reads, AreRead}
+use Rattle.expr_steps.specs.Codes.{Code, Coded, from_source, pair_step, one, followed}
+use Rattle.expr_scopes.specs.Scopes.{Names, IsBefore, is_number, AreScoped, is_made, step_reads, reads, AreRead}
 use Rattle.expr_scopes.specs.Laws.{Stands, IsSound}
 
 -- ---- what stands before a step
@@ -53,7 +52,7 @@ not_second false b h = refl
 pub scoped_append : (names : Names) (k : ℕ) (a b : List Step) → AreScoped names k a → AreScoped names (k + length a) b → AreScoped names k (a ++ b)
 scoped_append names k [] b h more = let e : k + 0 ≡ k = omega arith in subst (λ n. AreScoped names n b) e more
 scoped_append names k (s ∷ a) b h more =
-    let e : k + (1 + length a) ≡ (k + 1) + length a = omega arith in
+    let e : k + length (s ∷ a) ≡ (k + 1) + length a = omega arith in
     (h.0, scoped_append names (k + 1) a b h.1 (subst (λ n. AreScoped names n b) e more))
 
 reads_append : (a b : List Step) (j : ℕ) → reads (a ++ b) j ≡ (reads a j || reads b j)
@@ -62,7 +61,7 @@ reads_append a b j = list_any-append (step_reads j) a b
 pub read_append : (wanted between : ℕ → Bool) (k : ℕ) (a b : List Step) → AreRead between k a → AreRead wanted (k + length a) b → ((j : ℕ) → between j ≡ true → (reads b j || wanted j) ≡ true) → AreRead wanted k (a ++ b)
 read_append wanted between k [] b h more hand = let e : k + 0 ≡ k = omega arith in subst (λ n. AreRead wanted n b) e more
 read_append wanted between k (s ∷ a) b h more hand =
-    let e : k + (1 + length a) ≡ (k + 1) + length a = omega arith in
+    let e : k + length (s ∷ a) ≡ (k + 1) + length a = omega arith in
     (by (or_cases (reads a k) (between k) h.0), read_append wanted between (k + 1) a b h.1 (subst (λ n. AreRead wanted n b) e more) hand)
   where
     by : (reads a k ≡ true) ⊎ (between k ≡ true) → (reads (a ++ b) k || wanted k) ≡ true

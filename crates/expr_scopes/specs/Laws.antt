@@ -1,11 +1,11 @@
 -- The laws of an expression's steps: they read only what stands before them, and each but the first two is read.
-use Rattle.std.specs.Prelude.{◌≡◌, ℕ, ◌+◌, ◌≤◌, ◌==◌, List, [], ◌∷◌, ◌++◌, length, ⊥}
+use Rattle.std.specs.Prelude.{ℕ, ◌+◌, ◌≤◌, ◌==◌, List, length}
 use Rattle.typed_trees.specs.declared.typed.TypedExpr.{TypedExpr}
 use Rattle.expr_steps.specs.declared.steps.Source.{Source}
-use Rattle.expr_steps.specs.declared.steps.Source.TheVariants.{Mark, Column, Aggregate, Made, Number}
+use Rattle.expr_steps.specs.declared.steps.Source.TheVariants.{Number}
 use Rattle.expr_steps.specs.declared.steps.Step.{Step}
 use Rattle.expr_steps.specs.Codes.{Coded, one, and_then}
-use Rattle.expr_steps.specs.Lowered.{Bytes, lowered, constants, steps_of}
+use Rattle.expr_steps.specs.Lowered.{Bytes, lowered, steps_of}
 use Rattle.control_vectors.specs.declared.PairKind.TheVariants as pair
 use Rattle.expr_scopes.specs.Scopes.{Names, names_in, IsBefore, AreScoped, is_made, AreRead}
 
