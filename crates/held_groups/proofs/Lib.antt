@@ -2,3 +2,5 @@ pub mod Codes
 pub mod Sorted
 pub mod Groups
 pub mod Aggregates
+pub mod Firsts
+pub mod Heads

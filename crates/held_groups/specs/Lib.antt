@@ -1,2 +1,3 @@
 pub mod Groups
 pub mod Aggregates
+pub mod Heads

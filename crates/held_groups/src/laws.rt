@@ -1,6 +1,7 @@
 //! The laws of groups and their aggregates over slots, each stated once, as a contract.
 
 ghost use Rattle.held_groups.specs.Groups.{CodeLaw, SortLaw, GroupLaw, MemberLaw};
+ghost use Rattle.held_groups.specs.Heads.{HeadLaws};
 ghost use Rattle.held_groups.specs.Aggregates.{ThereLaw, ValuesLaw, RowsLaw, RowCountLaw};
 
 /// Values of one kind compare as the slots that stand for them.
@@ -17,6 +18,11 @@ pub fn sort_law()
 pub fn group_law()
     ensures groups { GroupLaw }
     ensures members { MemberLaw }
+{}
+
+/// Groups at the places where their runs begin: what folds over the sorted rows give there.
+pub fn head_laws()
+    ensures { HeadLaws }
 {}
 
 /// An aggregate over a group is what folds make of its slots.
