@@ -88,7 +88,7 @@ HasColumnsOf source columns b = All (λ k. list_any (λ p. same_column p.column 
 abbrev pub RowsRuns : Type 0
 RowsRuns =
     (defs : List TableDef) (ts : List Table) (n source : ℕ) (def : TableDef) (t : Table) (columns : List ℕ) (k : ℕ) (env : Env)
-    → IsDatabase defs ts → slice_get defs n ≡ Some def → slice_get ts n ≡ Some t → All (λ c. c < length def.columns) columns
+    → IsDatabase defs ts → slice_get defs n ≡ Some def → slice_get ts n ≡ Some t → All (λ c. c < length def.columns) columns → length columns ≤ 64
     → Makes (tables (database_of defs ts).store) (rows_of def source columns) k env (λ b next after. Stands (database_of defs ts).dictionary b on_table (length t.rows) t.rows after × (IsBelow next b.vector × (HasColumnsOf source columns b × (All (λ p. p.column.source ≡ source) b.columns × (b.aggregates ≡ [])))))
 
 abbrev pub RowsPasses : Type 0
