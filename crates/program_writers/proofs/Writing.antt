@@ -6,7 +6,7 @@ use Rattle.programs.specs.declared.op.Statement.{Statement}
 use Rattle.programs.specs.Mentions.{Label}
 use Rattle.program_writers.specs.declared.writer.Writer.{Writer as Text}
 use Rattle.program_writers.specs.Codes.{Adds}
-use Rattle.program_writers.specs.Writers.{Writer, Written, Writes, tell, ◌>>=◌, through, stem, append, numbered}
+use Rattle.program_writers.specs.Writers.{Writer, Written, tell, ◌>>=◌, through, stem, append, numbered}
 
 pub tells : {A : Type 0} (a : A) (w : Text) → Adds (tell a) w w a
 tells a w = record { statements = sym (append-nil w.statements.items); next_number = refl; tells = refl }

@@ -1,6 +1,4 @@
 -- What a call of the code adds to a program, and loops over parts.
-use Rattle.std.specs.Prelude.{ℕ, List, [], Option, Some, None}
-use Rattle.programs.specs.declared.op.Statement.{Statement}
 use Rattle.program_writers.specs.declared.writer.Writer.{Writer as Text}
 use Rattle.program_writers.specs.Writers.{Writer, Writes}
 

@@ -1,5 +1,5 @@
 -- The decimal digits of a number, however great it is: so two numbers never have the same.
-use Rattle.std.specs.Prelude.{ℕ, zero, suc, ◌+◌, ◌/◌, ◌%◌, nat_lt, if◌then◌else◌, List, [], ◌∷◌, ◌++◌}
+use Rattle.std.specs.Prelude.{ℕ, zero, suc, ◌+◌, ◌/◌, ◌%◌, nat_lt, if◌then◌else◌, [], ◌∷◌, ◌++◌}
 use Rattle.programs.specs.Mentions.{Label}
 
 -- the last k digits at most

@@ -1,20 +1,16 @@
 -- The statements that parts are written with (Voodoo, PVLDB 9(14), 2016, table 2).
-use Rattle.std.specs.Prelude.{ℕ, ℤ, pos, List, codes}
+use Rattle.std.specs.Prelude.{pos, codes}
 use Rattle.control_vectors.specs.Controls.{Control, control_of}
 use Rattle.control_vectors.specs.declared.PairKind.{PairKind}
 use Rattle.programs.specs.declared.family.FoldOperator.{FoldOperator}
+use Rattle.programs.specs.declared.family.FoldOperator.TheVariants as fold
 use Rattle.programs.specs.declared.op.FoldArgs.{FoldArgs}
 use Rattle.programs.specs.declared.op.Op.{Op}
 use Rattle.programs.specs.declared.op.Op.TheVariants as op
 use Rattle.programs.specs.declared.op.Operand.{Operand}
 use Rattle.programs.specs.declared.op.Operand.TheVariants as operand
-use Rattle.programs.specs.declared.op.Size.{Size}
-use Rattle.programs.specs.declared.op.Size.TheVariants as size
-use Rattle.programs.specs.declared.order_keys.OrderPath.{OrderPath}
-use Rattle.programs.specs.Families as families
 use Rattle.programs.specs.Families.{pair_of}
 use Rattle.programs.specs.Mentions.{Label}
-use Rattle.program_writers.specs.Writers.{Writer, make}
 
 -- ---- paths
 
@@ -56,7 +52,11 @@ abbrev pub fold_args : Label → FoldArgs
 fold_args a = record { a = a; val = val; run = run; out = out }
 
 abbrev pub fold_of : FoldOperator → FoldArgs → Op
-fold_of kind f = families.fold_of kind f
+fold_of fold.Sum f = op.FoldSum f
+fold_of fold.Min f = op.FoldMin f
+fold_of fold.Max f = op.FoldMax f
+fold_of fold.Select f = op.FoldSelect f
+fold_of fold.Scan f = op.FoldScan f
 
 -- the attributes of one vector at the places that another holds
 abbrev pub at_places : Label → Label → Op

@@ -1,11 +1,10 @@
 -- Beside a path that is known, nothing stands above another of one segment, or of two.
-use Rattle.std.proofs.Common.{◌≡◌, ◌≢◌, ℕ, zero, suc, ◌+◌, ◌<◌, ◌≤◌, Bool, true, false, not, ◌||◌, ◌&&◌, ◌⊎◌, inl, inr, List, [], ◌∷◌, ◌++◌, length, drop, get_or, refl, sym, ap, ◌∙◌, subst, arith, nat_eq, Option, Some}
-use Rattle.std.specs.Prelude.{All}
-use Rattle.std.specs.List.{list_all, list_any, starts_with}
+use Rattle.std.proofs.Common.{◌≡◌, ◌≢◌, ℕ, zero, suc, ◌<◌, Bool, true, false, not, ◌||◌, inl, inr, List, [], ◌∷◌, ◌++◌, length, drop, get_or, refl, sym, ap, ◌∙◌, subst, arith, nat_eq, Some}
+use Rattle.std.specs.List.{list_all, list_any}
 use Rattle.std.specs.Str.{bytes_eq}
 use Rattle.std.proofs.lemmas.Bool.{and_parts, false≢true}
 use Rattle.std.proofs.lemmas.Slice.Eq.{bytes_eq-Decides}
-use Rattle.key_paths.specs.Substructures.{is_root, begins_segment_or_ends, is_at_or_below}
+use Rattle.key_paths.specs.Substructures.{is_root, is_at_or_below}
 use Rattle.key_paths.proofs.Orders.{goes_on, at_or_below_itself}
 use Rattle.programs.specs.Faults.{apart, all_apart, path_clash}
 use Rattle.programs.specs.Mentions.{Label, has_name}
@@ -14,12 +13,9 @@ use Rattle.programs.proofs.Projections.{apart_clear}
 use Rattle.writer_checks.specs.Checks.{HasShape}
 use Rattle.writer_checks.specs.Laws.{NoneAbove}
 use Rattle.writer_checks.specs.Paths.{is_flat, one, two}
-use Rattle.writer_checks.proofs.Outlined.{any_member, has_path, first_name, same_name, later_name}
+use Rattle.writer_checks.proofs.Outlined.{any_member, has_path, first_name, later_name}
 use Rattle.writer_checks.proofs.Attributes.{apart_parts, all_member}
 use Rattle.writer_checks.proofs.Segments.{one_below, two_below, longer}
-
-apart_back : (p q : Label) → apart p q ≡ true → (is_at_or_below p q ≡ false) × (is_at_or_below q p ≡ false) → (is_at_or_below q p ≡ false) × (is_at_or_below p q ≡ false)
-apart_back p q e h = (h.1, h.0)
 
 -- two of some paths that are apart
 members_apart : (xs : List Label) (x y : Label) → all_apart xs ≡ true → has_name xs x ≡ true → has_name xs y ≡ true → x ≢ y → is_at_or_below x y ≡ false

@@ -1,5 +1,5 @@
 -- An attribute more, and an attribute alone: where nothing stands above it, the paths are apart as before.
-use Rattle.std.proofs.Common.{◌≡◌, ℕ, zero, suc, ◌+◌, ◌<◌, ◌≤◌, ◌^◌, Bool, true, false, not, ◌||◌, ◌&&◌, List, [], ◌∷◌, ◌++◌, length, drop, drop_of_length-le, map, filter, get_or, refl, sym, ap, ◌∙◌, subst, arith, append-nil, le_refl, if◌then◌else◌}
+use Rattle.std.proofs.Common.{◌≡◌, ℕ, ◌<◌, Bool, true, false, not, ◌||◌, ◌&&◌, List, [], ◌∷◌, ◌++◌, length, drop, drop_of_length-le, map, filter, get_or, refl, sym, ap, ◌∙◌, subst, arith, append-nil, le_refl, if◌then◌else◌}
 use Rattle.std.specs.Prelude.{All}
 use Rattle.std.specs.List.{list_any, list_all}
 use Rattle.std.specs.Str.{bytes_eq}
@@ -9,7 +9,6 @@ use Rattle.std.proofs.lemmas.List.Elements.{All-head, All-tail, All-cons}
 use Rattle.key_paths.specs.Substructures.{is_root, is_at_or_below, is_before}
 use Rattle.key_paths.proofs.Orders.{at_or_below_itself}
 use Rattle.programs.specs.Faults.{apart, all_apart, path_clash, too_deep}
-use Rattle.programs.specs.Laws.{MergeLaws}
 use Rattle.programs.specs.Mentions.{Label, has_name}
 use Rattle.programs.specs.Merges.{entered, merged}
 use Rattle.programs.specs.Moves.{stem, path_of, moved, projected, others, upserted, is_deep}

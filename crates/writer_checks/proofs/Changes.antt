@@ -1,10 +1,9 @@
 -- What an attribute more and an attribute alone need, so that nothing is wrong with them.
-use Rattle.std.proofs.Common.{◌≡◌, ℕ, ◌<◌, Bool, true, false, ◌||◌, List, [], ◌∷◌, refl, sym, ap, ◌∙◌, Option, Some}
+use Rattle.std.proofs.Common.{◌≡◌, ℕ, Bool, false, ◌||◌, List, [], ◌∷◌, refl, ap, ◌∙◌}
 use Rattle.programs.specs.Families.{Project, Upsert}
-use Rattle.programs.specs.Faults.{all_apart}
-use Rattle.programs.specs.Mentions.{Label, has_name}
+use Rattle.programs.specs.Mentions.{Label}
 use Rattle.programs.specs.Moves.{projected, upserted}
-use Rattle.programs.specs.Outlines.{Outline, outlined, Shapes, len_in, paths_in}
+use Rattle.programs.specs.Outlines.{outlined, Shapes, paths_in}
 use Rattle.programs.proofs.Projections.{apart_clear}
 use Rattle.key_paths.proofs.Orders.{at_or_below_itself}
 use Rattle.writer_checks.specs.Checks.{HasShape}

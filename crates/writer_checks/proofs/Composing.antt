@@ -1,13 +1,11 @@
 -- Parts that pass compose, and what is known of a vector stays known.
-use Rattle.std.proofs.Common.{◌≡◌, ℕ, ◌+◌, ◌<◌, ◌≤◌, List, [], ◌∷◌, ◌++◌, refl, sym, ap, ◌∙◌, arith, le_refl, le_trans, Ok}
+use Rattle.std.proofs.Common.{ℕ, refl, ap, ◌∙◌, le_refl, le_trans}
 use Rattle.programs.specs.Check.{Known, Checked, check_from, then_check}
-use Rattle.programs.specs.Mentions.{Label}
-use Rattle.programs.specs.Outlines.{Outline, Shapes}
+use Rattle.programs.specs.Outlines.{Shapes}
 use Rattle.programs.proofs.CheckLemmas.{check_from-append}
-use Rattle.program_writers.specs.Names.{IsBelow}
 use Rattle.program_writers.specs.Writers.{Writer, tell, ◌>>=◌}
 use Rattle.program_writers.proofs.Numbers.{below_more}
-use Rattle.writer_checks.specs.Checks.{IsFresh, HasShape, Passes}
+use Rattle.writer_checks.specs.Checks.{IsFresh, Passes}
 use Rattle.writer_checks.specs.Laws.{ComposeLaws, KeptLaw}
 
 pub tell_passes : (A : Type 0) (tables : Shapes) (a : A) (k : ℕ) (known : Known) (P : A → Shapes → Type 0) → IsFresh k known.vectors → P a known.vectors → Passes tables (tell a) k known P

@@ -1,5 +1,5 @@
 -- What users of the laws need again and again: what stays known, weaker ends, loops, statements under names of their own, and results.
-use Rattle.std.proofs.Common.{◌≡◌, ◌≢◌, ℕ, ◌+◌, ◌<◌, ◌≤◌, Bool, true, false, ◌||◌, List, [], ◌∷◌, ◌++◌, refl, sym, ap, ◌∙◌, subst, arith, le_refl, Ok, Option, Some, None, is_none, if◌then◌else◌}
+use Rattle.std.proofs.Common.{◌≡◌, ℕ, ◌+◌, Bool, true, false, ◌||◌, List, [], ◌∷◌, refl, sym, ap, ◌∙◌, subst, Ok, Option, Some, None, is_none}
 use Rattle.std.specs.Str.{bytes_eq}
 use Rattle.std.proofs.lemmas.Slice.Eq.{bytes_eq-Decides}
 use Rattle.programs.specs.declared.op.Op.{Op}
@@ -14,7 +14,7 @@ use Rattle.programs.specs.Mentions.{Label}
 use Rattle.programs.specs.Outlines.{Outline, Shapes, add_shape}
 use Rattle.programs.proofs.CheckLemmas.{add_shape-other}
 use Rattle.program_writers.specs.Names.{HasNumber, IsBelow}
-use Rattle.program_writers.specs.Writers.{Writer, tell, ◌>>=◌, through, statement}
+use Rattle.program_writers.specs.Writers.{Writer, through, statement}
 use Rattle.program_writers.proofs.Numbers.{below_next}
 use Rattle.writer_checks.specs.Checks.{IsFresh, HasShape, Passes}
 use Rattle.writer_checks.proofs.Composing.{tell_passes, behind_passes}

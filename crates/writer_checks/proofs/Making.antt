@@ -1,24 +1,22 @@
 -- One statement under a new name passes where nothing else is wrong with it.
-use Rattle.std.proofs.Common.{◌≡◌, ◌≢◌, ℕ, ◌+◌, ◌<◌, ◌≤◌, ◌^◌, Bool, true, false, ◌||◌, List, [], ◌∷◌, ◌++◌, refl, sym, ap, ◌∙◌, subst, arith, Ok, Option, Some, None, is_some, if◌then◌else◌}
+use Rattle.std.proofs.Common.{◌≡◌, ℕ, ◌+◌, ◌≤◌, ◌^◌, Bool, true, false, List, [], ◌∷◌, refl, sym, ap, ◌∙◌, subst, arith, Ok, Option, Some, None, is_some, if◌then◌else◌}
 use Rattle.std.specs.Prelude.{All}
 use Rattle.std.specs.Str.{bytes_eq}
 use Rattle.std.proofs.lemmas.Slice.Eq.{bytes_eq-Decides}
 use Rattle.std.proofs.lemmas.List.Elements.{All-append, All-cons, All-nil}
-use Rattle.key_paths.specs.Substructures.{is_root}
 use Rattle.programs.specs.declared.op.Op.{Op}
-use Rattle.programs.specs.declared.op.ProgramKind.{ProgramKind}
 use Rattle.programs.specs.declared.op.ProgramKind.TheVariants.{UnknownName, NoSuchPath, NoLength, PathClash, TooDeep, TooManyKeys, NameTwice}
-use Rattle.programs.specs.Check.{Known, Checked, name_twice, fault_of, after_fault, then_check, with_result, with_vector, known_behind, learn, check_one, check_from}
+use Rattle.programs.specs.Check.{Known, Checked, fault_of, after_fault, then_check, with_result, with_vector, known_behind, learn, check_one, check_from}
 use Rattle.programs.specs.Families.{Family, family}
-use Rattle.programs.specs.Faults.{unknown_by, lacks_by, endless, path_clash, too_deep, has_many_keys, first_fault, tests_by}
+use Rattle.programs.specs.Faults.{unknown_by, lacks_by, endless, path_clash, too_deep, has_many_keys, first_fault}
 use Rattle.programs.specs.MadeOutlines.{made_by}
 use Rattle.programs.specs.Mentions.{Label, has_name, is_persist, shows_result}
 use Rattle.programs.specs.Outlines.{Outline, Shapes, add_shape}
 use Rattle.programs.proofs.CheckLemmas.{add_shape-other}
-use Rattle.program_writers.specs.Names.{is_word, HasNumber, IsBelow, IsFrom}
+use Rattle.program_writers.specs.Names.{is_word, IsBelow, IsFrom}
 use Rattle.program_writers.specs.Writers.{make, numbered}
 use Rattle.program_writers.proofs.Numbers.{one_number, numbered_has, below_more, below_next, from_differs}
-use Rattle.writer_checks.specs.Checks.{AreSmall, IsFresh, HasShape, Passes}
+use Rattle.writer_checks.specs.Checks.{IsFresh, HasShape, Passes}
 
 -- nothing is wrong with an operator, and it makes this
 pub record Fine (tables vectors : Shapes) (f : Family) (o : Outline) : Type 0 where

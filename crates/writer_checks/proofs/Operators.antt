@@ -1,34 +1,30 @@
 -- What each operator needs so that nothing is wrong with it: tables, ranges, places, folds, orders and pairs.
-use Rattle.std.proofs.Common.{◌≡◌, ℕ, ◌+◌, ◌<◌, ◌≤◌, ◌^◌, Bool, true, false, ◌||◌, List, [], ◌∷◌, ◌++◌, length, refl, sym, ap, ◌∙◌, subst, arith, le-ltb, Option, Some, None, is_none}
+use Rattle.std.proofs.Common.{◌≡◌, ℕ, ◌≤◌, Bool, true, false, ◌||◌, List, [], ◌∷◌, length, refl, sym, ap, ◌∙◌, subst, arith, le-ltb, Some, is_none}
 use Rattle.std.specs.Prelude.{All, min}
 use Rattle.std.specs.List.{list_any}
 use Rattle.std.proofs.lemmas.List.Elements.{All-head, All-tail}
 use Rattle.control_vectors.specs.Controls.{Control}
 use Rattle.control_vectors.specs.declared.PairKind.{PairKind}
 use Rattle.control_vectors.specs.declared.PairKind.TheVariants as pair_kind
-use Rattle.key_paths.specs.Substructures.{is_root, is_at_or_below}
+use Rattle.key_paths.specs.Substructures.{is_at_or_below}
 use Rattle.programs.specs.declared.family.FoldOperator.{FoldOperator}
 use Rattle.programs.specs.declared.family.FoldOperator.TheVariants as fold_kind
 use Rattle.programs.specs.declared.op.FoldArgs.{FoldArgs}
-use Rattle.programs.specs.declared.op.Op.{Op}
-use Rattle.programs.specs.declared.op.Op.TheVariants as op
 use Rattle.programs.specs.declared.op.Operand.{Operand}
 use Rattle.programs.specs.declared.op.Operand.TheVariants as operand
 use Rattle.programs.specs.declared.op.PairArgs.{PairArgs}
 use Rattle.programs.specs.declared.op.Size.{Size}
 use Rattle.programs.specs.declared.op.Size.TheVariants as size
 use Rattle.programs.specs.declared.order_keys.OrderPath.{OrderPath}
-use Rattle.programs.specs.Check.{Known}
-use Rattle.programs.specs.Families.{Family, family, pair_of, Load, Range, Gather, Fold, Order, Pair}
+use Rattle.programs.specs.Families.{family, pair_of, Load, Range, Gather, Fold, Order, Pair}
 use Rattle.programs.specs.Faults.{path_clash, too_deep, lacks_path}
-use Rattle.programs.specs.MadeOutlines.{size_in}
 use Rattle.programs.specs.Mentions.{Label, has_name}
 use Rattle.programs.specs.Outlines.{Outline, outlined, known_outline, Shapes, len_in, paths_in}
 use Rattle.program_writers.specs.Statements.{out, val, run, fold_of, fold_args}
 use Rattle.writer_checks.specs.Checks.{HasShape}
 use Rattle.writer_checks.specs.Laws.{IsAttribute, HasOperand, HasLength, IsSizeOf}
 use Rattle.writer_checks.proofs.Making.{Fine}
-use Rattle.writer_checks.proofs.Outlined.{one_clear, one_shallow, is_known, outline_in, len_of, paths_of, has_path, lacks_none, lacks_none_below, first_name, later_name}
+use Rattle.writer_checks.proofs.Outlined.{one_clear, one_shallow, is_known, len_of, paths_of, lacks_none, lacks_none_below, first_name, later_name}
 
 one_none : (a : Bool) → a ≡ false → (a || false) ≡ false
 one_none a e = rw e refl

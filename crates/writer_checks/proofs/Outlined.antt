@@ -1,7 +1,7 @@
 -- Outlines of one path, and those that a vector of some shape has.
-use Rattle.std.proofs.Common.{◌≡◌, ℕ, zero, suc, ◌+◌, ◌<◌, ◌≤◌, ◌^◌, Bool, true, false, not, ◌||◌, ◌&&◌, List, [], ◌∷◌, ◌++◌, length, get_or, refl, sym, ap, ◌∙◌, subst, arith, Ok, Option, Some, None, is_none, if◌then◌else◌}
-use Rattle.std.specs.Prelude.{All, min}
-use Rattle.std.specs.List.{list_any, list_all}
+use Rattle.std.proofs.Common.{◌≡◌, ℕ, Bool, true, false, not, ◌||◌, List, [], ◌∷◌, refl, ap, ◌∙◌, subst, is_none}
+use Rattle.std.specs.Prelude.{All}
+use Rattle.std.specs.List.{list_any}
 use Rattle.std.specs.Str.{bytes_eq}
 use Rattle.std.proofs.lemmas.Slice.Eq.{bytes_eq-Decides}
 use Rattle.std.proofs.lemmas.List.Elements.{All-head, All-tail, All-cons, All-nil}
@@ -11,7 +11,6 @@ use Rattle.programs.specs.Mentions.{Label, has_name}
 use Rattle.programs.specs.Moves.{is_deep}
 use Rattle.programs.specs.Outlines.{Outline, outlined, known_outline, Shapes, len_in, paths_in}
 use Rattle.writer_checks.specs.Checks.{HasShape}
-use Rattle.writer_checks.specs.Laws.{IsAttribute}
 
 -- ---- one path
 

@@ -1,9 +1,9 @@
 -- Each operator passes where the vectors that it reads have the paths that it reads.
-use Rattle.std.proofs.Common.{◌≡◌, ℕ, ◌+◌, ◌<◌, ◌≤◌, ◌^◌, Bool, true, false, List, [], ◌∷◌, length, refl, sym, ap, ◌∙◌, subst, arith, Option, Some, None}
+use Rattle.std.proofs.Common.{◌≡◌, ℕ, ◌≤◌, ◌^◌, true, false, List, [], ◌∷◌, length, refl, sym, ◌∙◌, subst, Some}
 use Rattle.std.specs.Prelude.{All}
 use Rattle.control_vectors.specs.Controls.{Control}
 use Rattle.control_vectors.specs.declared.PairKind.{PairKind}
-use Rattle.key_paths.specs.Substructures.{is_root, is_at_or_below}
+use Rattle.key_paths.specs.Substructures.{is_at_or_below}
 use Rattle.programs.specs.declared.family.FoldOperator.{FoldOperator}
 use Rattle.programs.specs.declared.op.Op.TheVariants as op
 use Rattle.programs.specs.declared.op.Operand.{Operand}
@@ -20,7 +20,7 @@ use Rattle.program_writers.specs.Writers.{make, numbered}
 use Rattle.writer_checks.specs.Checks.{IsFresh, HasShape, Passes}
 use Rattle.writer_checks.specs.Laws.{IsAttribute, NoneAbove, HasOperand, HasLength, IsSizeOf, Shaped, OperatorLaws}
 use Rattle.writer_checks.proofs.Making.{Fine, made_passes, shaped_passes, add_shape-same}
-use Rattle.writer_checks.proofs.Outlined.{names_one, len_of}
+use Rattle.writer_checks.proofs.Outlined.{names_one}
 use Rattle.writer_checks.proofs.Changes.{upsert_fine, project_fine}
 use Rattle.writer_checks.proofs.Attributes.{upserted_names}
 use Rattle.writer_checks.proofs.Operators.{load_fine, range_fine, gather_fine, fold_fine, fold_family, order_fine, pair_fine, pair_family}

@@ -1,6 +1,6 @@
 -- What stands at or below a path of one segment or two.
-use Rattle.std.proofs.Common.{◌≡◌, ◌≢◌, ℕ, zero, suc, ◌+◌, ◌<◌, ◌≤◌, Bool, true, false, not, ◌||◌, ◌&&◌, ◌⊎◌, inl, inr, List, [], ◌∷◌, ◌++◌, length, drop, length-append, refl, sym, ap, ◌∙◌, subst, arith, nat_eq, nat_lt, cond, fold}
-use Rattle.std.specs.List.{list_all, starts_with}
+use Rattle.std.proofs.Common.{◌≡◌, ◌≢◌, ℕ, ◌+◌, ◌<◌, Bool, true, false, not, ◌||◌, ◌&&◌, ◌⊎◌, inl, inr, [], ◌∷◌, ◌++◌, length, drop, length-append, refl, sym, ap, ◌∙◌, subst, arith, nat_eq, nat_lt, cond, fold}
+use Rattle.std.specs.List.{starts_with}
 use Rattle.std.proofs.lemmas.Bool.{and_parts, false≢true}
 use Rattle.std.proofs.lemmas.Bool.Decides.{nat_tests}
 use Rattle.std.proofs.lemmas.List.{append_cancel_left}
@@ -8,7 +8,6 @@ use Rattle.key_paths.specs.Paths.{is_dot}
 use Rattle.key_paths.specs.Substructures.{is_root, begins_segment_or_ends, is_at_or_below}
 use Rattle.key_paths.proofs.Orders.{goes_on}
 use Rattle.programs.specs.Mentions.{Label}
-use Rattle.programs.specs.Moves.{is_deep}
 use Rattle.writer_checks.specs.Laws.{IsAttribute}
 use Rattle.writer_checks.specs.Paths.{is_flat, one, two}
 

@@ -1,5 +1,5 @@
 -- Parts of a program that pass its check behind any statements whose names have lesser numbers.
-use Rattle.std.specs.Prelude.{◌≡◌, ◌≢◌, ℕ, ◌≤◌, ◌^◌, Bool, true, false, List, [], All, Option, Some, None, Ok}
+use Rattle.std.specs.Prelude.{◌≡◌, ◌≢◌, ℕ, ◌≤◌, ◌^◌, true, false, List, All, Some, None, Ok}
 use Rattle.programs.specs.Check.{Known, check_from}
 use Rattle.programs.specs.Faults.{path_clash, too_deep}
 use Rattle.programs.specs.Mentions.{Label, has_name}

@@ -1,5 +1,5 @@
 -- The laws of checks, part by part: parts compose, and each operator passes where the vectors that it reads have the paths that it reads.
-use Rattle.std.specs.Prelude.{◌≡◌, ℕ, ◌≤◌, ◌^◌, Bool, true, false, List, [], ◌∷◌, ◌++◌, All, length, ◌<◌, Some, None}
+use Rattle.std.specs.Prelude.{◌≡◌, ℕ, ◌≤◌, ◌^◌, true, false, List, [], ◌∷◌, All, length, ◌<◌, Some}
 use Rattle.control_vectors.specs.Controls.{Control}
 use Rattle.control_vectors.specs.declared.PairKind.{PairKind}
 use Rattle.key_paths.specs.Substructures.{is_root, is_at_or_below}
@@ -15,11 +15,11 @@ use Rattle.programs.specs.Mentions.{Label, has_name}
 use Rattle.programs.specs.Moves.{is_deep}
 use Rattle.programs.specs.Outlines.{Outline, Shapes}
 use Rattle.program_writers.specs.Names.{IsBelow, is_word}
-use Rattle.program_writers.specs.Statements.{out, mark, val, run, pair, with_attribute, fold_args, fold_of, at_places}
-use Rattle.program_writers.specs.Writers.{Writer, tell, ◌>>=◌, through, make}
-use Rattle.writer_checks.specs.Checks.{IsFresh, HasShape, Passes, PassesFrom}
+use Rattle.program_writers.specs.Statements.{out, val, run, pair, with_attribute, fold_args, fold_of}
+use Rattle.program_writers.specs.Writers.{Writer, tell, ◌>>=◌, make}
+use Rattle.writer_checks.specs.Checks.{IsFresh, HasShape, Passes}
 
--- ---- parts compose
+-- ---- parts compose: a statement about all properties, which no contract can hold, so that proofs cite it
 
 pub record ComposeLaws : Type 1 where
   pub tell : (A : Type 0) (tables : Shapes) (a : A) (k : ℕ) (known : Known) (P : A → Shapes → Type 0) → IsFresh k known.vectors → P a known.vectors → Passes tables (tell a) k known P
@@ -75,7 +75,7 @@ pub record OperatorLaws : Type 0 where
   pub upsert : (tables : Shapes) (word a p b q : Label) (len : ℕ) (paths : List Label) (other : ℕ) (k : ℕ) (known : Known) → is_word word ≡ true → IsFresh k known.vectors → IsAttribute p → len ≤ 2 ^ 22
       → HasShape known.vectors a len paths → HasShape known.vectors b other (q ∷ []) → NoneAbove known.vectors a p → All (λ r. is_at_or_below r p ≡ false) paths
       → Passes tables (make word (with_attribute a p b q)) k known (Shaped len (p ∷ paths))
-  -- one attribute alone: where it has a path of one segment, there may be others below it only if they are not
+  -- one attribute alone, under another path: where the paths of a vector are apart, nothing else stands below it
   pub project : (tables : Shapes) (word a p q : Label) (len : ℕ) (k : ℕ) (known : Known) → is_word word ≡ true → IsFresh k known.vectors → IsAttribute p → IsAttribute q → len ≤ 2 ^ 22
       → HasShape known.vectors a len (p ∷ []) → Passes tables (make word (op.Project a p q)) k known (λ name shapes. shapes name ≡ Some (record { len = len; paths = q ∷ [] }))
   pub gather : (tables : Shapes) (word a b pos : Label) (len other : ℕ) (paths : List Label) (k : ℕ) (known : Known) → is_word word ≡ true → IsFresh k known.vectors → len ≤ 2 ^ 22

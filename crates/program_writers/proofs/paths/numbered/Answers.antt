@@ -1,4 +1,4 @@
-use Rattle.std.proofs.Common.{◌≡◌, List, ◌++◌, sym, ◌∙◌, subst, decimal, arith}
+use Rattle.std.proofs.Common.{List, sym, ◌∙◌, subst, arith}
 use Rattle.key_paths.specs.Paths.{IsPath}
 use Rattle.program_writers.proofs.Routes.{numbered_path}
 use Rattle.program_writers.proofs.paths.numbered.Goals as goal
