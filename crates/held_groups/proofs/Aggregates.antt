@@ -36,6 +36,7 @@ use Rattle.query_answers.proofs.SlotFolds.{slot_laws}
 use Rattle.expr_values.specs.Laws.{value_slot, value_cell}
 use Rattle.held_groups.specs.Groups.{CanCode}
 use Rattle.held_groups.specs.Aggregates.{pair_cell, nought, there, counted, cell_of_aggregate, IsFew, ThereLaw, ValuesLaw, RowsLaw, RowCountLaw}
+use Rattle.held_groups.specs.Overs.{ok_value}
 use Rattle.held_groups.proofs.Codes.{code_law}
 use Rattle.held_groups.proofs.Sorted.{all_from, all_at}
 
@@ -176,11 +177,6 @@ values_law texts Max t u vs e can few = slot_laws.greatest (coded texts) vs refl
 values_law texts Avg t u vs e can few = mean_is texts vs (all_numbers texts t u vs e can) few
 
 -- ---- over rows
-
--- a value that is not Over
-abbrev pub ok_value : Valued → Value
-ok_value (Ok v) = v
-ok_value (Err e) = null
 
 module _ (texts : List (List ℕ)) (k : Kind) (f : FromRow → Valued) where
   abbrev pub Stand : List FromRow → Type 0

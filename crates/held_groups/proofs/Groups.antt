@@ -104,7 +104,7 @@ module _ (texts : List (List ℕ)) (r s : FromRow) where
 
 -- ---- the groups
 
-key_order : (columns : List ColumnRef) → IsStrictWeakOrder (key_before columns)
+pub key_order : (columns : List ColumnRef) → IsStrictWeakOrder (key_before columns)
 key_order columns = ranks_by keys_total (group_key columns)
 
 pub group_law : GroupLaw

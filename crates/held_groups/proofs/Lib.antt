@@ -4,3 +4,4 @@ pub mod Groups
 pub mod Aggregates
 pub mod Firsts
 pub mod Heads
+pub mod Overs

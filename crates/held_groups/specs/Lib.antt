@@ -1,3 +1,4 @@
 pub mod Groups
 pub mod Aggregates
 pub mod Heads
+pub mod Overs

@@ -2,6 +2,7 @@
 
 ghost use Rattle.held_groups.specs.Groups.{CodeLaw, SortLaw, GroupLaw, MemberLaw};
 ghost use Rattle.held_groups.specs.Heads.{HeadLaws};
+ghost use Rattle.held_groups.specs.Overs.{EachRowLaw, SomeRowLaw, GroupsOnLaw};
 ghost use Rattle.held_groups.specs.Aggregates.{ThereLaw, ValuesLaw, RowsLaw, RowCountLaw};
 
 /// Values of one kind compare as the slots that stand for them.
@@ -31,4 +32,11 @@ pub fn aggregate_laws()
     ensures values { ValuesLaw }
     ensures rows { RowsLaw }
     ensures count { RowCountLaw }
+{}
+
+/// Over is strict, from rows to groups.
+pub fn over_laws()
+    ensures each_row { EachRowLaw }
+    ensures some_row { SomeRowLaw }
+    ensures groups_on { GroupsOnLaw }
 {}
