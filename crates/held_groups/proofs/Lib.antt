@@ -5,3 +5,4 @@ pub mod Aggregates
 pub mod Firsts
 pub mod Heads
 pub mod Overs
+pub mod Members

@@ -87,7 +87,7 @@ module _ {A : Type 0} (p : A → Bool) where
       by true e = ap (λ (b : Bool). p y || b) e ∙ or_swap (p y) (p x) (list_any p ys)
       by false e = refl
 
-  any_sorted : (lt : A → A → Bool) (xs : List A) → list_any p (sorted_by lt xs) ≡ list_any p xs
+  pub any_sorted : (lt : A → A → Bool) (xs : List A) → list_any p (sorted_by lt xs) ≡ list_any p xs
   any_sorted lt [] = refl
   any_sorted lt (x ∷ xs) = any_inserted lt x (sorted_by lt xs) ∙ ap (λ (b : Bool). p x || b) (any_sorted lt xs)
 

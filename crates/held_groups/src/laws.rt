@@ -2,6 +2,7 @@
 
 ghost use Rattle.held_groups.specs.Groups.{CodeLaw, SortLaw, GroupLaw, MemberLaw};
 ghost use Rattle.held_groups.specs.Heads.{HeadLaws};
+ghost use Rattle.held_groups.specs.Members.{GroupRows, GroupCellLaw};
 ghost use Rattle.held_groups.specs.Overs.{EachRowLaw, SomeRowLaw, GroupsOnLaw};
 ghost use Rattle.held_groups.specs.Aggregates.{ThereLaw, ValuesLaw, RowsLaw, RowCountLaw};
 
@@ -39,4 +40,10 @@ pub fn over_laws()
     ensures each_row { EachRowLaw }
     ensures some_row { SomeRowLaw }
     ensures groups_on { GroupsOnLaw }
+{}
+
+/// The rows of a group are rows of the list, and an aggregate over them is what folds make of their slots.
+pub fn member_laws()
+    ensures rows { GroupRows }
+    ensures cell { GroupCellLaw }
 {}
