@@ -1,8 +1,9 @@
 -- What each part of a plan's program does: it makes the rows or groups that it is to make, passes its check, and is used.
 -- After SQL-92 (ISO/IEC 9075:1992), 7.3 <table expression> to 7.9 <query specification> and 13.1 <order by clause>.
-use Rattle.std.specs.Prelude.{◌≡◌, ℕ, ◌+◌, ◌-◌, ◌≤◌, ◌<◌, ◌^◌, Bool, true, List, [], ◌∷◌, ◌++◌, All, map, length, slice_get, Option, Some, None, Result, Ok, Err, ◌==◌}
+use Rattle.std.specs.Prelude.{◌≡◌, ℕ, ◌+◌, ◌-◌, ◌≤◌, ◌<◌, ◌^◌, Bool, true, List, [], ◌∷◌, ◌++◌, All, map, length, slice_get, Option, Some, None, Result, Ok, Err, ◌==◌, IsSome}
 use Rattle.std.specs.Option.{ForSome}
 use Rattle.control_vectors.specs.Controls.{Control}
+use Rattle.control_vectors.specs.Slots.{Slot, fits_128}
 use Rattle.control_vectors.specs.declared.Over.{Over}
 use Rattle.programs.specs.Check.{Known}
 use Rattle.programs.specs.Mentions.{Label}
@@ -21,7 +22,7 @@ use Rattle.typed_trees.specs.declared.typed.KeyRef.TheVariants.{Item, Column}
 use Rattle.typed_trees.specs.declared.typed.OrderKey.{OrderKey}
 use Rattle.typed_trees.specs.declared.typed.TypedExpr.{TypedExpr}
 use Rattle.typed_trees.specs.Names.{same_column}
-use Rattle.typed_trees.specs.Types.{DataType, no_aggregate, types_of}
+use Rattle.typed_trees.specs.Types.{DataType, no_aggregate, aggregate_type, types_of}
 use Rattle.std.specs.List.{list_any, list_all}
 use Rattle.typed_values.specs.Values.{On, Valued, value}
 use Rattle.sql_values.specs.Values.{Value, null}
@@ -131,9 +132,14 @@ pub record CanGroup (b : Base) (columns : List ColumnRef) (aggregates : List Agg
   pub places : All (λ c. list_any (λ p. same_column p.column c) b.columns ≡ true) columns
   pub few : length columns ≤ 4
   pub arguments : All (λ a. ForSome a.argument (CanValue no_aggregate b)) aggregates
-  pub typed : (n : ℕ) → n < length aggregates → ForSome (types_of aggregates n) (λ t. Unit {0})
+  pub typed : All (λ a. IsSome (aggregate_type a)) aggregates
 
--- rows in whose group columns stand values of one kind and known texts, and on which arguments have values
+-- a slot of 128 bits, or an empty one
+abbrev pub fits_slot : Slot → Bool
+fits_slot None = true
+fits_slot (Some z) = fits_128 z
+
+-- at most as many rows as a table has, in whose group columns stand values of one kind and known texts, and on which arguments have values
 -- values of one kind or null, whose texts are texts of the dictionary
 pub record AreAlike (texts : List Bytes) (values : List Value) : Type 0 where
   pub kind : Kind
@@ -142,6 +148,8 @@ pub record AreAlike (texts : List Bytes) (values : List Value) : Type 0 where
 
 pub record CanGroupRows (texts : List Bytes) (columns : List ColumnRef) (aggregates : List Aggregate) (rows : List FromRow) : Type 0 where
   pub columns_alike : All (λ c. AreAlike texts (map (λ r. (on_row r).column c) rows)) columns
+  pub columns_fit : All (λ c. All (λ r. fits_slot (coded texts ((on_row r).column c)) ≡ true) rows) columns
+  pub few : length rows ≤ 2 ^ 20
   pub arguments : All (λ a. ForSome a.argument (CanValueAll texts no_aggregate on_row rows)) aggregates
 
 -- the groups, with the values of their aggregates: `q` has these group columns and aggregates
