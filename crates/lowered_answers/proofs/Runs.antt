@@ -1,6 +1,12 @@
 -- What the parts of a plan's program make, one behind another: the rows of its answer, or they are Over where it is.
-use Rattle.std.proofs.Common.{◌≡◌, ℕ, ◌≤◌, ◌<◌, Bool, true, false, List, [], ◌∷◌, map, length, refl, sym, ap, ◌∙◌, subst, option_to_list, Option, Some, None, Result, Ok, Err}
+use Rattle.std.proofs.Common.{◌≡◌, ℕ, ◌≤◌, ◌<◌, Bool, true, false, List, [], ◌∷◌, map, length, refl, sym, ap, ◌∙◌, subst, option_to_list, Option, Some, None, Result, Ok, Err, ◌^◌, ◌==◌, filter, zero, suc, length-map, arith}
+use Rattle.std.specs.List.{list_any}
 use Rattle.std.specs.Prelude.{All, slice_get}
+use Rattle.std.proofs.lemmas.List.{length-filter-le}
+use Rattle.sql_values.specs.Values.{Value}
+use Rattle.expr_lower.specs.declared.places.ColumnPlace.{ColumnPlace}
+use Rattle.expr_lower.specs.declared.places.AggregatePlace.{AggregatePlace}
+use Rattle.typed_trees.specs.Names.{same_column}
 use Rattle.control_vectors.specs.Controls.{Control}
 use Rattle.control_vectors.specs.declared.Over.{Over}
 use Rattle.programs.specs.Mentions.{Label}
@@ -11,7 +17,7 @@ use Rattle.table_load.specs.Values.{Table}
 use Rattle.typed_trees.specs.declared.typed.PlanSource.{PlanSource}
 use Rattle.typed_trees.specs.Types.{no_aggregate, types_of}
 use Rattle.typed_values.specs.Values.{On, Valued}
-use Rattle.query_answers.specs.Answers.{Row, FromRow, OutputRow, condition, groups_of, on_group, on_row, output_row}
+use Rattle.query_answers.specs.Answers.{Row, FromRow, OutputRow, condition, groups_of, meets, on_group, on_row, output_row}
 use Rattle.query_answers.specs.Clauses.{Clauses}
 use Rattle.query_answers.specs.Overs.{each}
 use Rattle.query_answers.specs.Overs as overs
@@ -27,13 +33,13 @@ use Rattle.plan_lower.specs.Rows.{rows_of, kept}
 use Rattle.plan_lower.specs.Groups.{grouped}
 use Rattle.plan_lower.specs.Lowered.{defined_rows, table_rows, source_rows, from_rows, stands_on}
 use Rattle.lowered_stages.specs.Stages.{Stands}
-use Rattle.lowered_stages.specs.Parts.{CanValue, CanValueAll, on_table, itself, HasColumnsOf, SamePlaces, RowsRuns, KeptRuns, GroupedRuns, ItemsRuns, HoldsItems, answer_rows, ordered_items}
+use Rattle.lowered_stages.specs.Parts.{CanValue, CanValueAll, on_table, itself, HasColumnsOf, IsKeyOf, key_alike, SamePlaces, RowsRuns, KeptRuns, GroupedRuns, ItemsRuns, HoldsItems, answer_rows, ordered_items}
 use Rattle.lowered_stages.specs.Plans.{CanLower}
 use Rattle.lowered_premises.specs.Sources.{OverTable, texts_of, alone, met_rows, IsRowOf, IsGroupOf, HasGroupPlaces}
 use Rattle.lowered_premises.specs.Laws.{HasItsColumns, ColumnLaw, TableLaw, StandOnRows, RowsLaw, StandOnGroups, GroupsLaw, MemberLaws, HaveValues, PlacesLaw, HaveGroupValues, GroupPlacesLaw, where_rows, having_groups, ShapeLaws}
 use Rattle.lowered_answers.proofs.Alone.{stands_alone}
 use Rattle.lowered_answers.proofs.Bodies.{items_on, behind_where, behind_rows, body}
-use Rattle.lowered_answers.proofs.Delivering.{Behind, makes_then, delivers_then}
+use Rattle.lowered_answers.proofs.Delivering.{Behind, makes_then, delivers_then, delivers_less, delivers_same}
 
 -- the laws of the parts, and of what they are asked over
 pub record RunLaws : Type 1 where
@@ -77,27 +83,194 @@ HoldsAt texts items rows name next after = (v : Vector) × (Sees after name v ×
 -- ---- the rows of FROM
 
 -- from-rows stand at a base, which has a place for each of the source's columns
-abbrev FromStand : Given → Base → ℕ → Env → Type 0
-FromStand g b next after = Stands (texts g) b on_row (length g.table.rows) (map alone (met_rows g.source g.table)) after × (IsBelow next b.vector × HasColumnsOf 0 g.source.columns b)
+abbrev RowsStand : Given → List FromRow → Base → ℕ → Env → Type 0
+RowsStand g rows b next after = Stands (texts g) b on_row (length g.table.rows) rows after × (IsBelow next b.vector × HasColumnsOf 0 g.source.columns b)
 
 abbrev TableStand : Given → Base → ℕ → Env → Type 0
 TableStand g b next after = Stands (texts g) b on_table (length g.table.rows) g.table.rows after × (IsBelow next b.vector × (HasColumnsOf 0 g.source.columns b × (All (λ p. p.column.source ≡ 0) b.columns × (b.aggregates ≡ []))))
 
-table_made : RunLaws → Premises → (g : Given) (few : length g.source.columns ≤ 64) → Makes (store g) (table_rows g.defs g.source.table g.source.columns) 0 nothing (TableStand g)
-table_made laws h g few =
+few_columns : (g : Given) → length g.source.columns ≤ 64
+few_columns g = (subst (All (λ s. length s.columns ≤ 64)) g.over.only g.can.few_columns).0
+
+table_made : RunLaws → Premises → (g : Given) → Makes (store g) (table_rows g.defs g.source.table g.source.columns) 0 nothing (TableStand g)
+table_made laws h g =
     subst (λ (d : Option TableDef). Makes (store g) (defined_rows d g.source.columns) 0 nothing (TableStand g)) (sym g.over.defined)
-    (laws.rows_run g.defs g.ts g.source.table 0 g.def g.table g.source.columns 0 nothing g.can.database g.over.defined g.over.stored (h.columns g.defs g.ts g.plan g.source g.def g.table g.can g.over).within few)
+    (laws.rows_run g.defs g.ts g.source.table 0 g.def g.table g.source.columns 0 nothing g.can.database g.over.defined g.over.stored (h.columns g.defs g.ts g.plan g.source g.def g.table g.can g.over).within (few_columns g))
+
+-- a part that keeps places
+has_same : (source : ℕ) (columns : List ℕ) (b c : Base) → SamePlaces b c → HasColumnsOf source columns b → HasColumnsOf source columns c
+has_same source columns b c s h = subst (λ (l : List ColumnPlace). All (λ k. list_any (λ p. same_column p.column (record { source = source; column = k })) l ≡ true) columns) (sym s.columns) h
 
 -- the conditions of the source alone
-source_kept : RunLaws → Premises → (g : Given) (b : Base) (next : ℕ) (between : Env) → TableStand g b next between → Delivers (store g) (kept g.select (texts g) b g.source.filter) next between (Ok (met_rows g.source g.table)) (λ rows c. FromStand g c)
+source_kept : RunLaws → Premises → (g : Given) (b : Base) (next : ℕ) (between : Env) → TableStand g b next between → Delivers (store g) (kept g.select (texts g) b g.source.filter) next between (Ok (met_rows g.source g.table)) (λ rows. RowsStand g (map alone rows))
 source_kept laws h g b next between (stands, (below, (places, (first, none)))) =
     let values = (h.places g.defs g.ts g.plan g.source g.def g.table b g.can g.over places).source in
     let asked = h.table g.defs g.ts g.plan g.source g.def g.table g.can g.over in
     let made = laws.kept_run Row g.select (texts g) no_aggregate on_table (length g.table.rows) g.table.rows b g.source.filter next (store g) between values asked below stands in
-    loosened (h.shapes.kept_are g.defs g.ts g.plan g.source g.def g.table g.can g.over) made
+    let kept_so : Delivers (store g) (kept g.select (texts g) b g.source.filter) next between (Ok (met_rows g.source g.table)) KeptSo =
+        subst (λ (r : Result (List Row) Over). Delivers (store g) (kept g.select (texts g) b g.source.filter) next between r KeptSo) (h.shapes.kept_are g.defs g.ts g.plan g.source g.def g.table g.can g.over) made in
+    delivers_same (store g) (kept g.select (texts g) b g.source.filter) next between (Ok (met_rows g.source g.table)) KeptSo (λ rows. RowsStand g (map alone rows)) so kept_so
   where
-    same : (c : Base) → SamePlaces b c → HasColumnsOf 0 g.source.columns c
-    same c s = subst (λ (l : List _). All (λ k. _) g.source.columns) refl places
+    abbrev KeptSo : List Row → Base → ℕ → Env → Type 0
+    KeptSo left c n after = Stands (texts g) c on_table (length g.table.rows) left after × (IsBelow n c.vector × SamePlaces b c)
 
-    loosened : (r : Result (List Row) Over) → r ≡ Ok (met_rows g.source g.table) → Unit {0}
-    loosened r e = tt
+    so : (rows : List Row) (c : Base) (n : ℕ) (after : Env) → Ok (met_rows g.source g.table) ≡ Ok rows → KeptSo rows c n after → RowsStand g (map alone rows) c n after
+    so rows c n after e (stand, (name, same)) = (
+      stands_alone (texts g) c (length g.table.rows) rows after (subst (All (λ p. p.column.source ≡ 0)) (sym same.columns) first) (same.aggregates ∙ none) stand,
+      (name, has_same 0 g.source.columns b c same places),
+    )
+
+from_made : RunLaws → Premises → (g : Given) → Makes (store g) (from_rows g.select (texts g) g.defs g.plan.sources) 0 nothing (RowsStand g (map alone (met_rows g.source g.table)))
+from_made laws h g =
+    subst (λ (l : List PlanSource). Makes (store g) (from_rows g.select (texts g) g.defs l) 0 nothing (RowsStand g (map alone (met_rows g.source g.table)))) (sym g.over.only)
+    (makes_then (store g) (table_rows g.defs g.source.table g.source.columns) (λ b. kept g.select (texts g) b g.source.filter) 0 nothing (TableStand g) (Ok (met_rows g.source g.table)) (λ rows. RowsStand g (map alone rows)) (table_made laws h g)
+    (λ b next between le stands still. source_kept laws h g b next between stands))
+
+-- ---- WHERE
+
+all_rows : Premises → (g : Given) → All (IsRowOf g.table) (map alone (met_rows g.source g.table))
+all_rows h g = h.members.rows g.table g.source
+
+-- a loaded table has at most 2^20 rows
+few_rows : (g : Given) → length g.table.rows ≤ 2 ^ 20
+few_rows g = by g.ts g.source.table g.over.stored g.can.database.short
+  where
+    by : (ts : List Table) (n : ℕ) → slice_get ts n ≡ Some g.table → All (λ t. length t.rows ≤ 2 ^ 20) ts → length g.table.rows ≤ 2 ^ 20
+    by [] n e h = absurd cc
+    by (t ∷ ts) zero e h = subst (λ (u : Table). length u.rows ≤ 2 ^ 20) (some_same t g.table e) h.0
+    by (t ∷ ts) (suc n) e h = by ts n e h.1
+
+    some_same : (a b : Table) → Some a ≡ Some b → a ≡ b
+    some_same a b q = cc
+
+-- what is kept is no more than there was
+kept_few : {A : Type 0} (c : A → Valued) (rows left : List A) → overs.kept c rows ≡ Ok left → length left ≤ length rows
+kept_few c rows left e = by (each c rows) e
+  where
+    by : (r : Result (List Value) Over) → overs.◌>>=◌ r (λ truths. Ok (filter (λ row. overs.is_met (c row)) rows)) ≡ Ok left → length left ≤ length rows
+    by (Ok truths) q = subst (λ (l : List _). length l ≤ length rows) (ok_same (filter (λ row. overs.is_met (c row)) rows) left q) (length-filter-le (λ row. overs.is_met (c row)) rows)
+    by (Err o) q = absurd cc
+
+    ok_same : (a b : List _) → Ok a ≡ Ok b → a ≡ b
+    ok_same a b q = cc
+
+met_few : (g : Given) → length (map alone (met_rows g.source g.table)) ≤ 2 ^ 20
+met_few g = omega (arith, length-map alone (met_rows g.source g.table), length-filter-le (meets g.source.filter) g.table.rows, few_rows g)
+
+where_few : (g : Given) (rows : List FromRow) → where_rows g.plan g.source g.table ≡ Ok rows → length rows ≤ 2 ^ 20
+where_few g rows e = omega (arith, kept_few (λ row. condition g.plan.filter (on_row row)) (map alone (met_rows g.source g.table)) rows e, met_few g)
+
+where_members : Premises → (g : Given) (rows : List FromRow) → where_rows g.plan g.source g.table ≡ Ok rows → All (IsRowOf g.table) rows
+where_members h g rows e = h.members.kept_rows g.table (λ row. condition g.plan.filter (on_row row)) (map alone (met_rows g.source g.table)) rows e (all_rows h g)
+
+where_made : RunLaws → Premises → (g : Given) (b : Base) (next : ℕ) (between : Env) → RowsStand g (map alone (met_rows g.source g.table)) b next between → Delivers (store g) (kept g.select (texts g) b g.plan.filter) next between (where_rows g.plan g.source g.table) (RowsStand g)
+where_made laws h g b next between (stands, (below, places)) =
+    let rows = map alone (met_rows g.source g.table) in
+    let values = (h.places g.defs g.ts g.plan g.source g.def g.table b g.can g.over places).filter in
+    let asked = (h.rows g.defs g.ts g.plan g.source g.def g.table rows g.can g.over (all_rows h g) (met_few g)).filter in
+    delivers_same (store g) (kept g.select (texts g) b g.plan.filter) next between (where_rows g.plan g.source g.table) KeptSo (RowsStand g) so
+    (laws.kept_run FromRow g.select (texts g) no_aggregate on_row (length g.table.rows) rows b g.plan.filter next (store g) between values asked below stands)
+  where
+    abbrev KeptSo : List FromRow → Base → ℕ → Env → Type 0
+    KeptSo left c n after = Stands (texts g) c on_row (length g.table.rows) left after × (IsBelow n c.vector × SamePlaces b c)
+
+    so : (left : List FromRow) (c : Base) (n : ℕ) (after : Env) → where_rows g.plan g.source g.table ≡ Ok left → KeptSo left c n after → RowsStand g left c n after
+    so left c n after e (stand, (name, same)) = (stand, (name, has_same 0 g.source.columns b c same places))
+
+-- ---- the items of rows, or of groups
+
+abbrev clauses : Given → Clauses
+clauses g = clauses_of_plan g.plan
+
+abbrev AnswerAt : Given → List Row → Label → ℕ → Env → Type 0
+AnswerAt g rows name next after = HoldsAt (texts g) (length g.plan.items) rows name next after
+
+items_made : {A : Type 0} (laws : RunLaws) (g : Given) (on : A → On) (len : ℕ) (rows : List A) (b : Base) (k : ℕ) (env : Env)
+    → All (CanValue (types_of g.plan.aggregates) b) g.plan.items → All (CanValueAll (texts g) (types_of g.plan.aggregates) on rows) g.plan.items → All (λ key. IsKeyOf (length g.plan.items) b key.key) g.plan.order → All (λ key. key_alike (texts g) on rows key.key) g.plan.order
+    → IsBelow k b.vector → Stands (texts g) b on len rows env
+    → Delivers (store g) (items_on (texts g) g.plan b) k env (overs.◌>>=◌ (each (λ a. output_row (clauses g) (on a)) rows) (λ outputs. Ok (answer_rows (clauses g) outputs))) (AnswerAt g)
+items_made {A} laws g on len rows b k env values asked keys alike below stands =
+    delivers_less (store g) (items_on (texts g) g.plan b) k env (each (λ a. output_row (clauses g) (on a)) rows) (answer_rows (clauses g)) Made (AnswerAt g) (λ outputs name next after e h. (h.0, (h.1.0, h.1.1.0)))
+    (laws.items_run A (texts g) (types_of g.plan.aggregates) on (clauses g) len rows b k (store g) env values asked g.can.well_formed.few_items g.can.well_formed.few_keys keys alike below stands)
+  where
+    abbrev Made : List OutputRow → Label → ℕ → Env → Type 0
+    Made outputs name next after = (v : Vector) × (Sees after name v × (HoldsItems (texts g) (length g.plan.items) (answer_rows (clauses g) outputs) v × IsBelow next name))
+
+abbrev GroupsStand : Given → List On → Base → ℕ → Env → Type 0
+GroupsStand g groups c next after = (count : ℕ) × (Stands (texts g) c itself count groups after × (IsBelow next c.vector × HasGroupPlaces (clauses g) c))
+
+having_made : RunLaws → Premises → (g : Given) → g.plan.grouped ≡ true → (rows : List FromRow) → All (IsRowOf g.table) rows → length rows ≤ 2 ^ 20 → (b : Base) (k : ℕ) (env : Env) → RowsStand g rows b k env
+    → Delivers (store g) (stands_on g.select (texts g) g.plan true b) k env (having_groups g.plan rows) (GroupsStand g)
+having_made laws h g is rows members few b k env (stands, (below, places)) =
+    let values = (h.places g.defs g.ts g.plan g.source g.def g.table b g.can g.over places).grouping in
+    let asked = (h.rows g.defs g.ts g.plan g.source g.def g.table rows g.can g.over members few).grouping in
+    delivers_then (store g) (grouped (texts g) b g.plan.groups g.plan.aggregates) (λ c. kept g.select (texts g) c (option_to_list g.plan.having)) k env (each (on_group (clauses g)) (groups_of g.plan.groups rows)) Grouped
+    (λ groups. overs.kept (λ on. condition (option_to_list g.plan.having) (itself on)) groups) (GroupsStand g)
+    (laws.grouped_run (texts g) (clauses g) (length g.table.rows) rows b k (store g) env values asked below stands) kept_groups
+  where
+    abbrev Grouped : List On → Base → ℕ → Env → Type 0
+    Grouped groups c next after = (count : ℕ) × (Stands (texts g) c itself count groups after × (IsBelow next c.vector × (All (λ u. list_any (λ p. same_column p.column u) c.columns ≡ true) g.plan.groups × ((n : ℕ) → n < length g.plan.aggregates → list_any (λ p. p.aggregate == n) c.aggregates ≡ true))))
+
+    still_places : (c d : Base) → SamePlaces c d → HasGroupPlaces (clauses g) c → HasGroupPlaces (clauses g) d
+    still_places c d s p = record {
+      columns = subst (λ (l : List ColumnPlace). All (λ u. list_any (λ p. same_column p.column u) l ≡ true) g.plan.groups) (sym s.columns) p.columns;
+      aggregates = λ n less. ap (λ (l : List AggregatePlace). list_any (λ p. p.aggregate == n) l) s.aggregates ∙ p.aggregates n less;
+    }
+
+    kept_groups : (groups : List On) → each (on_group (clauses g)) (groups_of g.plan.groups rows) ≡ Ok groups → Behind (store g) (λ c. kept g.select (texts g) c (option_to_list g.plan.having)) k env (Grouped groups) (overs.kept (λ on. condition (option_to_list g.plan.having) (itself on)) groups) (GroupsStand g)
+    kept_groups groups made c next between le (count, (stand, (name, (columns, aggregates)))) still =
+        let places_of : HasGroupPlaces (clauses g) c = record { columns = columns; aggregates = aggregates } in
+        let having = (h.group_places g.defs g.ts g.plan g.source g.def g.table c g.can g.over is places_of).having in
+        let stood = (h.groups g.defs g.ts g.plan g.source g.def g.table rows groups g.can g.over members (h.members.groups g.plan rows groups made)).having in
+        delivers_same (store g) (kept g.select (texts g) c (option_to_list g.plan.having)) next between (overs.kept (λ on. condition (option_to_list g.plan.having) (itself on)) groups) (λ left d n after. Stands (texts g) d itself count left after × (IsBelow n d.vector × SamePlaces c d)) (GroupsStand g)
+        (λ left d n after e t. (count, (t.0, (t.1.0, still_places c d t.1.1 places_of))))
+        (laws.kept_run On g.select (texts g) (types_of g.plan.aggregates) itself count groups c (option_to_list g.plan.having) next (store g) between having stood name stand)
+
+-- the groups that are left are groups
+left_groups : Premises → (g : Given) (rows : List FromRow) (left : List On) → having_groups g.plan rows ≡ Ok left → All (IsGroupOf (clauses g) rows) left
+left_groups h g rows left e = by (each (on_group (clauses g)) (groups_of g.plan.groups rows)) refl e
+  where
+    by : (r : Result (List On) Over) → each (on_group (clauses g)) (groups_of g.plan.groups rows) ≡ r → overs.◌>>=◌ r (λ groups. overs.kept (λ on. condition (option_to_list g.plan.having) (itself on)) groups) ≡ Ok left → All (IsGroupOf (clauses g) rows) left
+    by (Ok groups) made q = h.members.kept_groups g.plan rows (λ on. condition (option_to_list g.plan.having) (itself on)) groups left q (h.members.groups g.plan rows groups made)
+    by (Err o) made q = absurd cc
+
+-- ---- behind WHERE
+
+grouped_made : RunLaws → Premises → (g : Given) → g.plan.grouped ≡ true → (rows : List FromRow) → All (IsRowOf g.table) rows → length rows ≤ 2 ^ 20 → (b : Base) (k : ℕ) (env : Env) → RowsStand g rows b k env
+    → Delivers (store g) (stands_on g.select (texts g) g.plan true b >>= items_on (texts g) g.plan) k env (overs.◌>>=◌ (having_groups g.plan rows) (λ groups. overs.◌>>=◌ (each (λ on. output_row (clauses g) (itself on)) groups) (λ outputs. Ok (answer_rows (clauses g) outputs)))) (AnswerAt g)
+grouped_made laws h g is rows members few b k env stands =
+    delivers_then (store g) (stands_on g.select (texts g) g.plan true b) (items_on (texts g) g.plan) k env (having_groups g.plan rows) (GroupsStand g) (λ groups. overs.◌>>=◌ (each (λ on. output_row (clauses g) (itself on)) groups) (λ outputs. Ok (answer_rows (clauses g) outputs))) (AnswerAt g)
+    (having_made laws h g is rows members few b k env stands)
+    (λ groups made c next between le t still.
+    let places = h.group_places g.defs g.ts g.plan g.source g.def g.table c g.can g.over is t.1.1.1 in
+    let stood = h.groups g.defs g.ts g.plan g.source g.def g.table rows groups g.can g.over members (left_groups h g rows groups made) in
+    items_made laws g itself t.0 groups c next between places.items stood.items places.keys stood.keys t.1.1.0 t.1.0)
+
+plain_made : RunLaws → Premises → (g : Given) → g.plan.grouped ≡ false → (rows : List FromRow) → All (IsRowOf g.table) rows → length rows ≤ 2 ^ 20 → (b : Base) (k : ℕ) (env : Env) → RowsStand g rows b k env
+    → Delivers (store g) (stands_on g.select (texts g) g.plan false b >>= items_on (texts g) g.plan) k env (overs.◌>>=◌ (each (λ row. output_row (clauses g) (on_row row)) rows) (λ outputs. Ok (answer_rows (clauses g) outputs))) (AnswerAt g)
+plain_made laws h g is rows members few b k env (stands, (below, places)) =
+    let values = h.places g.defs g.ts g.plan g.source g.def g.table b g.can g.over places in
+    let asked = h.rows g.defs g.ts g.plan g.source g.def g.table rows g.can g.over members few in
+    items_made laws g on_row (length g.table.rows) rows b k env (values.items is) (asked.items is) values.keys asked.keys below stands
+
+behind_made : RunLaws → Premises → (g : Given) (q : Bool) → g.plan.grouped ≡ q → (b : Base) (k : ℕ) (env : Env) → RowsStand g (map alone (met_rows g.source g.table)) b k env → Delivers (store g) (behind_rows g.select (texts g) g.plan b) k env (plan_answer g.ts g.plan) (AnswerAt g)
+behind_made laws h g true is b k env stands =
+    subst (λ (r : Result (List Row) Over). Delivers (store g) (behind_rows g.select (texts g) g.plan b) k env r (AnswerAt g)) (sym (h.shapes.grouped g.defs g.ts g.plan g.source g.def g.table g.over is))
+    (delivers_then (store g) (kept g.select (texts g) b g.plan.filter) (behind_where g.select (texts g) g.plan) k env (where_rows g.plan g.source g.table) (RowsStand g) (λ rows. overs.◌>>=◌ (having_groups g.plan rows) (λ groups. overs.◌>>=◌ (each (λ on. output_row (clauses g) (itself on)) groups) (λ outputs. Ok (answer_rows (clauses g) outputs)))) (AnswerAt g)
+    (where_made laws h g b k env stands)
+    (λ rows made c next between le t still.
+    subst (λ (u : Bool). Delivers (store g) (stands_on g.select (texts g) g.plan u c >>= items_on (texts g) g.plan) next between (overs.◌>>=◌ (having_groups g.plan rows) (λ groups. overs.◌>>=◌ (each (λ on. output_row (clauses g) (itself on)) groups) (λ outputs. Ok (answer_rows (clauses g) outputs)))) (AnswerAt g)) (sym is)
+    (grouped_made laws h g is rows (where_members h g rows made) (where_few g rows made) c next between t)))
+behind_made laws h g false is b k env stands =
+    subst (λ (r : Result (List Row) Over). Delivers (store g) (behind_rows g.select (texts g) g.plan b) k env r (AnswerAt g)) (sym (h.shapes.plain g.defs g.ts g.plan g.source g.def g.table g.over is))
+    (delivers_then (store g) (kept g.select (texts g) b g.plan.filter) (behind_where g.select (texts g) g.plan) k env (where_rows g.plan g.source g.table) (RowsStand g) (λ rows. overs.◌>>=◌ (each (λ row. output_row (clauses g) (on_row row)) rows) (λ outputs. Ok (answer_rows (clauses g) outputs))) (AnswerAt g)
+    (where_made laws h g b k env stands)
+    (λ rows made c next between le t still.
+    subst (λ (u : Bool). Delivers (store g) (stands_on g.select (texts g) g.plan u c >>= items_on (texts g) g.plan) next between (overs.◌>>=◌ (each (λ row. output_row (clauses g) (on_row row)) rows) (λ outputs. Ok (answer_rows (clauses g) outputs))) (AnswerAt g)) (sym is)
+    (plain_made laws h g is rows (where_members h g rows made) (where_few g rows made) c next between t)))
+
+-- the whole
+pub body_made : RunLaws → Premises → (g : Given) → Delivers (store g) (body g.select (texts g) g.defs g.plan) 0 nothing (plan_answer g.ts g.plan) (AnswerAt g)
+body_made laws h g =
+    makes_then (store g) (from_rows g.select (texts g) g.defs g.plan.sources) (behind_rows g.select (texts g) g.plan) 0 nothing (RowsStand g (map alone (met_rows g.source g.table))) (plan_answer g.ts g.plan) (AnswerAt g) (from_made laws h g)
+    (λ b next between le stands still. behind_made laws h g g.plan.grouped refl b next between stands)
