@@ -70,10 +70,10 @@ pub record Given : Type 0 where
   pub can : CanLower defs ts plan
   pub over : OverTable defs ts plan source def table
 
-abbrev texts : Given → List Bytes
+abbrev pub texts : Given → List Bytes
 texts g = texts_of g.defs g.ts
 
-abbrev store : Given → Env
+abbrev pub store : Given → Env
 store g = tables (database_of g.defs g.ts).store
 
 -- the vector that holds the rows of an answer

@@ -139,13 +139,13 @@ abbrev pub fits_slot : Slot → Bool
 fits_slot None = true
 fits_slot (Some z) = fits_128 z
 
--- at most as many rows as a table has, in whose group columns stand values of one kind and known texts, and on which arguments have values
 -- values of one kind or null, whose texts are texts of the dictionary
 pub record AreAlike (texts : List Bytes) (values : List Value) : Type 0 where
   pub kind : Kind
   pub each_is : All (λ v. is_of kind v ≡ true) values
   pub known : All (λ v. is_known texts v ≡ true) values
 
+-- at most as many rows as a table has, in whose group columns stand values of one kind and known texts, and on which arguments have values
 pub record CanGroupRows (texts : List Bytes) (columns : List ColumnRef) (aggregates : List Aggregate) (rows : List FromRow) : Type 0 where
   pub columns_alike : All (λ c. AreAlike texts (map (λ r. (on_row r).column c) rows)) columns
   pub columns_fit : All (λ c. All (λ r. fits_slot (coded texts ((on_row r).column c)) ≡ true) rows) columns
@@ -168,6 +168,12 @@ GroupedPasses =
 
 abbrev pub GroupedUses : Type 0
 GroupedUses = (texts : List Bytes) (b : Base) (columns : List ColumnRef) (aggregates : List Aggregate) (k : ℕ) → Uses ((told_at (grouped texts b columns aggregates) k).vector ∷ []) (b.vector ∷ []) (grouped texts b columns aggregates k).statements
+
+-- the groups have places for their columns and aggregates
+abbrev pub GroupedPlaces : Type 0
+GroupedPlaces =
+    (texts : List Bytes) (b : Base) (columns : List ColumnRef) (aggregates : List Aggregate) (k : ℕ)
+    → All (λ g. list_any (λ p. same_column p.column g) (told_at (grouped texts b columns aggregates) k).columns ≡ true) columns × ((n : ℕ) → n < length aggregates → list_any (λ p. p.aggregate == n) (told_at (grouped texts b columns aggregates) k).aggregates ≡ true)
 
 -- ---- items in order
 

@@ -70,11 +70,15 @@ key_of rows zero groups (j, c) = do
   tell (with_column vector c (key_path j) groups)
 
 -- a group stands where its run begins
+abbrev pub first_marks : Label → Writer Label
+first_marks marks = do
+  firsts ← make (codes "firsts") (fold_of fold.Max (fold_args marks))
+  make (codes "groups") (op.Project firsts out mark)
+
 abbrev pub run_groups : Base → Label → Writer Label
 run_groups rows runs = do
   marks ← make (codes "marks") (with_attribute runs val rows.vector mark)
-  firsts ← make (codes "firsts") (fold_of fold.Max (fold_args marks))
-  make (codes "groups") (op.Project firsts out mark)
+  first_marks marks
 
 abbrev pub by_columns : Base → List ColumnRef → Writer Folding
 by_columns b columns = do
@@ -116,11 +120,15 @@ collected None folded = tell folded
 collected (Some first) folded = make (codes "one") (at_places folded first)
 
 -- the fold of a value
+abbrev pub fold_in : Option Label → FoldOperator → Label → Writer Label
+fold_in first kind values = do
+  fold ← make (codes "fold") (fold_of kind (fold_args values))
+  collected first fold
+
 abbrev pub folded : Folding → FoldOperator → Label → Writer Label
 folded f kind value = do
   values ← make (codes "values") (with_attribute f.runs val value out)
-  fold ← make (codes "fold") (fold_of kind (fold_args values))
-  collected f.first fold
+  fold_in f.first kind values
 
 -- 1 where a row has a value, 0 where it has a null
 abbrev pub is_there : Folding → Label → Writer Label

@@ -65,12 +65,16 @@ and_true texts b all e = do
   value ← value_of texts (codes "where") b e
   make (codes "all") (pair pair.LogicalAnd (attribute all out) (attribute value out))
 
--- the places that a truth holds
+-- the places that a truth holds, in some runs
+abbrev pub picked : Label → Label → Writer Label
+picked runs all = do
+  pick ← make (codes "pick") (with_attribute runs val all out)
+  make (codes "places") (fold_of fold.Select (fold_args pick))
+
 abbrev pub places_of : Control → Label → Label → Writer Label
 places_of select vector all = do
   runs ← make (codes "runs") (op.Range (size.Of vector) run select)
-  pick ← make (codes "pick") (with_attribute runs val all out)
-  make (codes "places") (fold_of fold.Select (fold_args pick))
+  picked runs all
 
 -- the rows there
 abbrev pub selected : Control → Base → Label → Writer Base
