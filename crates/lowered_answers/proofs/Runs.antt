@@ -89,16 +89,16 @@ RowsStand g rows b next after = Stands (texts g) b on_row (length g.table.rows) 
 abbrev TableStand : Given → Base → ℕ → Env → Type 0
 TableStand g b next after = Stands (texts g) b on_table (length g.table.rows) g.table.rows after × (IsBelow next b.vector × (HasColumnsOf 0 g.source.columns b × (All (λ p. p.column.source ≡ 0) b.columns × (b.aggregates ≡ []))))
 
-few_columns : (g : Given) → length g.source.columns ≤ 64
+pub few_columns : (g : Given) → length g.source.columns ≤ 64
 few_columns g = (subst (All (λ s. length s.columns ≤ 64)) g.over.only g.can.few_columns).0
 
-table_made : RunLaws → Premises → (g : Given) → Makes (store g) (table_rows g.defs g.source.table g.source.columns) 0 nothing (TableStand g)
+pub table_made : RunLaws → Premises → (g : Given) → Makes (store g) (table_rows g.defs g.source.table g.source.columns) 0 nothing (TableStand g)
 table_made laws h g =
     subst (λ (d : Option TableDef). Makes (store g) (defined_rows d g.source.columns) 0 nothing (TableStand g)) (sym g.over.defined)
     (laws.rows_run g.defs g.ts g.source.table 0 g.def g.table g.source.columns 0 nothing g.can.database g.over.defined g.over.stored (h.columns g.defs g.ts g.plan g.source g.def g.table g.can g.over).within (few_columns g))
 
 -- a part that keeps places
-has_same : (source : ℕ) (columns : List ℕ) (b c : Base) → SamePlaces b c → HasColumnsOf source columns b → HasColumnsOf source columns c
+pub has_same : (source : ℕ) (columns : List ℕ) (b c : Base) → SamePlaces b c → HasColumnsOf source columns b → HasColumnsOf source columns c
 has_same source columns b c s h = subst (λ (l : List ColumnPlace). All (λ k. list_any (λ p. same_column p.column (record { source = source; column = k })) l ≡ true) columns) (sym s.columns) h
 
 -- the conditions of the source alone
@@ -132,7 +132,7 @@ all_rows : Premises → (g : Given) → All (IsRowOf g.table) (map alone (met_ro
 all_rows h g = h.members.rows g.table g.source
 
 -- a loaded table has at most 2^20 rows
-few_rows : (g : Given) → length g.table.rows ≤ 2 ^ 20
+pub few_rows : (g : Given) → length g.table.rows ≤ 2 ^ 20
 few_rows g = by g.ts g.source.table g.over.stored g.can.database.short
   where
     by : (ts : List Table) (n : ℕ) → slice_get ts n ≡ Some g.table → All (λ t. length t.rows ≤ 2 ^ 20) ts → length g.table.rows ≤ 2 ^ 20
