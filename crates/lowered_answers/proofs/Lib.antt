@@ -4,3 +4,4 @@ pub mod Bodies
 pub mod Runs
 pub mod Uses
 pub mod Checks
+pub mod Whole

@@ -1,0 +1,82 @@
+-- A plan's program means its answer, and passes its check.
+use Rattle.std.proofs.Common.{◌≡◌, ℕ, ◌≤◌, List, [], ◌∷◌, length, refl, sym, ap, ◌∙◌, subst, Result, Ok, Err}
+use Rattle.std.specs.Prelude.{codes}
+use Rattle.control_vectors.specs.Controls.{Control}
+use Rattle.control_vectors.specs.Slots.{over}
+use Rattle.control_vectors.specs.declared.Over.{Over}
+use Rattle.programs.specs.Check.{check, limit_of, at_start}
+use Rattle.programs.specs.Mentions.{Label}
+use Rattle.programs.specs.Outlines.{outlines}
+use Rattle.programs.specs.Vectors.{Vector, Env, Named, nothing, tables}
+use Rattle.programs.specs.declared.op.Statement.{Statement}
+use Rattle.sql_read.specs.declared.definition.TableDef.{TableDef}
+use Rattle.table_load.specs.Databases.{database_of}
+use Rattle.table_load.specs.Values.{Table}
+use Rattle.voodoo_ops.specs.Meaning.{meaning}
+use Rattle.query_answers.specs.Answers.{Row}
+use Rattle.rel_plan.specs.declared.plans.RelPlan.{RelPlan}
+use Rattle.plan_laws.specs.PlanAnswers.{plan_answer}
+use Rattle.writer_runs.specs.Laws.{with_result, StandLaws, ResultLaws}
+use Rattle.writer_runs.specs.Runs.{Delivers}
+use Rattle.writer_runs.specs.Uses.{ShowsNothing}
+use Rattle.plan_lower.specs.Lowered.{program, lowered}
+use Rattle.lowered_stages.specs.Plans.{CanLower}
+use Rattle.lowered_premises.specs.Laws.{SourceLaw}
+use Rattle.lowered_answers.specs.Holding.{HoldsRows}
+use Rattle.lowered_answers.specs.Laws.{PassesCheck, CheckLaw, HoldsAnswer, AnswerLaw}
+use Rattle.lowered_answers.proofs.Bodies.{body, program_is}
+use Rattle.lowered_answers.proofs.Runs.{RunLaws, Premises, Given, texts, store, HoldsAt, body_made}
+use Rattle.lowered_answers.proofs.Uses.{UseLaws, body_used}
+use Rattle.lowered_answers.proofs.Checks.{PassLaws, PlacesLaws, body_passes, passes_check}
+
+pub record AllLaws : Type 1 where
+  pub runs : RunLaws
+  pub premises : Premises
+  pub passes : PassLaws
+  pub places : PlacesLaws
+  pub uses : UseLaws
+  pub stands : StandLaws
+  pub results : ResultLaws
+
+shows_nothing : AllLaws → (g : Given) → ShowsNothing (body g.select (texts g) g.defs g.plan 0).statements
+shows_nothing a g =
+    let p = body_passes a.runs a.premises a.passes a.places g in
+    a.stands.passed (outlines (store g)) (body g.select (texts g) g.defs g.plan 0).statements at_start p.after p.passes p.results
+
+-- the statements without the result, and it
+abbrev ended : Given → List Statement
+ended g = with_result (body g.select (texts g) g.defs g.plan 0).statements (codes "answer") (body g.select (texts g) g.defs g.plan 0).told
+
+means : AllLaws → (g : Given) (r : Result (List Row) Over) → Delivers (store g) (body g.select (texts g) g.defs g.plan) 0 nothing r (HoldsAt (texts g) (length g.plan.items)) → HoldsAnswer (texts g) (length g.plan.items) r (meaning (store g) (ended g))
+means a g (Err e) failed =
+    let w = body g.select (texts g) g.defs g.plan 0 in
+    subst (HoldsAnswer (texts g) (length g.plan.items) (Err e)) (sym (a.results.fails (store g) w.statements [] (codes "answer") w.told (shows_nothing a g) (body_used a.uses g) failed)) tt
+means a g (Ok rows) made =
+    let w = body g.select (texts g) g.defs g.plan 0 in
+    let v = made.holds.0 in
+    subst (HoldsAnswer (texts g) (length g.plan.items) (Ok rows)) (sym (a.results.shows (store g) w.statements [] (codes "answer") w.told made.after v (shows_nothing a g) (body_used a.uses g) made.ran made.holds.1.0))
+    (record { vector = v; one = refl; fit = made.holds.1.1.fit; holds = made.holds.1.1.holds; alone = made.holds.1.1.alone })
+
+ended_is : (g : Given) → lowered g.select (database_of g.defs g.ts) g.plan ≡ ended g
+ended_is g = program_is g.select (texts g) g.defs g.plan
+
+given : SourceLaw → (select : Control) (defs : List TableDef) (ts : List Table) (p : RelPlan) → CanLower defs ts p → Given
+given source select defs ts p can =
+    let x = source defs ts p can in
+    record { select = select; defs = defs; ts = ts; plan = p; source = x.0; def = x.1.0; table = x.1.1.0; can = can; over = x.1.1.1 }
+
+pub answer_holds : AllLaws → SourceLaw → AnswerLaw
+answer_holds a source select defs ts p can =
+    let g = given source select defs ts p can in
+    subst (λ (l : List Statement). HoldsAnswer (texts g) (length p.items) (plan_answer ts p) (meaning (store g) l)) (sym (ended_is g)) (means a g (plan_answer ts p) (body_made a.runs a.premises g))
+
+-- no program has more statements than a program may have
+abbrev pub ShortLaw : Type 0
+ShortLaw = (select : Control) (defs : List TableDef) (ts : List Table) (p : RelPlan) → CanLower defs ts p → length (lowered select (database_of defs ts) p) ≤ 65536
+
+pub check_holds : AllLaws → SourceLaw → ShortLaw → CheckLaw
+check_holds a source short select defs ts p can =
+    let g = given source select defs ts p can in
+    let few = subst (λ (l : List Statement). length l ≤ 65536) (ended_is g) (short select defs ts p can) in
+    let x = passes_check a.runs a.premises a.passes a.places g few in
+    record { shape = x.0; passes = ap (check (outlines (store g))) (ended_is g) ∙ x.1.0; small = x.1.1 }
