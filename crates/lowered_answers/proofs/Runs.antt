@@ -1,8 +1,8 @@
 -- What the parts of a plan's program make, one behind another: the rows of its answer, or they are Over where it is.
-use Rattle.std.proofs.Common.{◌≡◌, ℕ, ◌≤◌, ◌<◌, Bool, true, false, List, [], ◌∷◌, map, length, refl, sym, ap, ◌∙◌, subst, option_to_list, Option, Some, None, Result, Ok, Err, ◌^◌, ◌==◌, filter, zero, suc, length-map, arith}
+use Rattle.std.proofs.Common.{◌≡◌, ℕ, ◌≤◌, ◌<◌, Bool, true, false, List, [], ◌∷◌, map, length, refl, sym, ap, ◌∙◌, subst, option_to_list, Option, Some, None, Result, Ok, Err, ◌^◌, ◌==◌, filter, not, zero, suc, length-map, arith}
 use Rattle.std.specs.List.{list_any}
 use Rattle.std.specs.Prelude.{All, slice_get}
-use Rattle.std.proofs.lemmas.List.{length-filter-le}
+use Rattle.std.proofs.lemmas.List.Filters.{length-filter_both}
 use Rattle.sql_values.specs.Values.{Value}
 use Rattle.expr_lower.specs.declared.places.ColumnPlace.{ColumnPlace}
 use Rattle.expr_lower.specs.declared.places.AggregatePlace.{AggregatePlace}
@@ -131,6 +131,10 @@ from_made laws h g =
 all_rows : Premises → (g : Given) → All (IsRowOf g.table) (map alone (met_rows g.source g.table))
 all_rows h g = h.members.rows g.table g.source
 
+-- what is left of a list is no more than the list
+filter_few : {A : Type 0} (p : A → Bool) (xs : List A) → length (filter p xs) ≤ length xs
+filter_few p xs = omega (arith, length-filter_both p (λ x. not (p x)) (λ x. refl) xs)
+
 -- a loaded table has at most 2^20 rows
 pub few_rows : (g : Given) → length g.table.rows ≤ 2 ^ 20
 few_rows g = by g.ts g.source.table g.over.stored g.can.database.short
@@ -148,14 +152,14 @@ kept_few : {A : Type 0} (c : A → Valued) (rows left : List A) → overs.kept c
 kept_few c rows left e = by (each c rows) e
   where
     by : (r : Result (List Value) Over) → overs.◌>>=◌ r (λ truths. Ok (filter (λ row. overs.is_met (c row)) rows)) ≡ Ok left → length left ≤ length rows
-    by (Ok truths) q = subst (λ (l : List _). length l ≤ length rows) (ok_same (filter (λ row. overs.is_met (c row)) rows) left q) (length-filter-le (λ row. overs.is_met (c row)) rows)
+    by (Ok truths) q = subst (λ (l : List _). length l ≤ length rows) (ok_same (filter (λ row. overs.is_met (c row)) rows) left q) (filter_few (λ row. overs.is_met (c row)) rows)
     by (Err o) q = absurd cc
 
     ok_same : (a b : List _) → Ok a ≡ Ok b → a ≡ b
     ok_same a b q = cc
 
 met_few : (g : Given) → length (map alone (met_rows g.source g.table)) ≤ 2 ^ 20
-met_few g = omega (arith, length-map alone (met_rows g.source g.table), length-filter-le (meets g.source.filter) g.table.rows, few_rows g)
+met_few g = omega (arith, length-map alone (met_rows g.source g.table), filter_few (meets g.source.filter) g.table.rows, few_rows g)
 
 where_few : (g : Given) (rows : List FromRow) → where_rows g.plan g.source g.table ≡ Ok rows → length rows ≤ 2 ^ 20
 where_few g rows e = omega (arith, kept_few (λ row. condition g.plan.filter (on_row row)) (map alone (met_rows g.source g.table)) rows e, met_few g)
