@@ -1,0 +1,4 @@
+//! Values over a base, and the rows for which conditions are true.
+#![tactic(auto)]
+
+pub mod laws;
