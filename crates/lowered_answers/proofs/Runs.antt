@@ -15,7 +15,10 @@ use Rattle.sql_read.specs.declared.definition.TableDef.{TableDef}
 use Rattle.table_load.specs.Databases.{database_of}
 use Rattle.table_load.specs.Values.{Table}
 use Rattle.typed_trees.specs.declared.typed.PlanSource.{PlanSource}
-use Rattle.typed_trees.specs.Types.{no_aggregate, types_of}
+use Rattle.typed_trees.specs.declared.typed.TypedExpr.{TypedExpr}
+use Rattle.typed_trees.specs.Typed.{IsCondition, IsSource}
+use Rattle.typed_trees.specs.Types.{DataType, no_aggregate, types_of}
+use Rattle.std.specs.Option.{ForSome}
 use Rattle.typed_values.specs.Values.{On, Valued}
 use Rattle.query_answers.specs.Answers.{Row, FromRow, OutputRow, condition, groups_of, meets, on_group, on_row, output_row}
 use Rattle.query_answers.specs.Clauses.{Clauses}
@@ -97,6 +100,14 @@ table_made laws h g =
     subst (λ (d : Option TableDef). Makes (store g) (defined_rows d g.source.columns) 0 nothing (TableStand g)) (sym g.over.defined)
     (laws.rows_run g.defs g.ts g.source.table 0 g.def g.table g.source.columns 0 nothing g.can.database g.over.defined g.over.stored (h.columns g.defs g.ts g.plan g.source g.def g.table g.can g.over).within (few_columns g))
 
+-- conditions are truths
+source_conditions : (g : Given) → All (IsCondition no_aggregate) g.source.filter
+source_conditions g = (subst (All IsSource) g.over.only g.can.well_formed.typed.sources).0
+
+having_conditions : {at : ℕ → Option DataType} (having : Option TypedExpr) → ForSome having (IsCondition at) → All (IsCondition at) (option_to_list having)
+having_conditions None h = tt
+having_conditions (Some e) h = (h, tt)
+
 -- a part that keeps places
 pub has_same : (source : ℕ) (columns : List ℕ) (b c : Base) → SamePlaces b c → HasColumnsOf source columns b → HasColumnsOf source columns c
 has_same source columns b c s h = subst (λ (l : List ColumnPlace). All (λ k. list_any (λ p. same_column p.column (record { source = source; column = k })) l ≡ true) columns) (sym s.columns) h
@@ -106,7 +117,7 @@ source_kept : RunLaws → Premises → (g : Given) (b : Base) (next : ℕ) (betw
 source_kept laws h g b next between (stands, (below, (places, (first, none)))) =
     let values = (h.places g.defs g.ts g.plan g.source g.def g.table b g.can g.over places).source in
     let asked = h.table g.defs g.ts g.plan g.source g.def g.table g.can g.over in
-    let made = laws.kept_run Row g.select (texts g) no_aggregate on_table (length g.table.rows) g.table.rows b g.source.filter next (store g) between values asked below stands in
+    let made = laws.kept_run Row g.select (texts g) no_aggregate on_table (length g.table.rows) g.table.rows b g.source.filter next (store g) between (source_conditions g) values asked below stands in
     let kept_so : Delivers (store g) (kept g.select (texts g) b g.source.filter) next between (Ok (met_rows g.source g.table)) KeptSo =
         subst (λ (r : Result (List Row) Over). Delivers (store g) (kept g.select (texts g) b g.source.filter) next between r KeptSo) (h.shapes.kept_are g.defs g.ts g.plan g.source g.def g.table g.can g.over) made in
     delivers_same (store g) (kept g.select (texts g) b g.source.filter) next between (Ok (met_rows g.source g.table)) KeptSo (λ rows. RowsStand g (map alone rows)) so kept_so
@@ -173,7 +184,7 @@ where_made laws h g b next between (stands, (below, places)) =
     let values = (h.places g.defs g.ts g.plan g.source g.def g.table b g.can g.over places).filter in
     let asked = (h.rows g.defs g.ts g.plan g.source g.def g.table rows g.can g.over (all_rows h g) (met_few g)).filter in
     delivers_same (store g) (kept g.select (texts g) b g.plan.filter) next between (where_rows g.plan g.source g.table) KeptSo (RowsStand g) so
-    (laws.kept_run FromRow g.select (texts g) no_aggregate on_row (length g.table.rows) rows b g.plan.filter next (store g) between values asked below stands)
+    (laws.kept_run FromRow g.select (texts g) no_aggregate on_row (length g.table.rows) rows b g.plan.filter next (store g) between g.can.well_formed.typed.filter values asked below stands)
   where
     abbrev KeptSo : List FromRow → Base → ℕ → Env → Type 0
     KeptSo left c n after = Stands (texts g) c on_row (length g.table.rows) left after × (IsBelow n c.vector × SamePlaces b c)
@@ -228,7 +239,7 @@ having_made laws h g is rows members few b k env (stands, (below, places)) =
         let stood = (h.groups g.defs g.ts g.plan g.source g.def g.table rows groups g.can g.over members (h.members.groups g.plan rows groups made)).having in
         delivers_same (store g) (kept g.select (texts g) c (option_to_list g.plan.having)) next between (overs.kept (λ on. condition (option_to_list g.plan.having) (itself on)) groups) (λ left d n after. Stands (texts g) d itself count left after × (IsBelow n d.vector × SamePlaces c d)) (GroupsStand g)
         (λ left d n after e t. (count, (t.0, (t.1.0, still_places c d t.1.1 places_of))))
-        (laws.kept_run On g.select (texts g) (types_of g.plan.aggregates) itself count groups c (option_to_list g.plan.having) next (store g) between having stood name stand)
+        (laws.kept_run On g.select (texts g) (types_of g.plan.aggregates) itself count groups c (option_to_list g.plan.having) next (store g) between (having_conditions g.plan.having g.can.well_formed.typed.having) having stood name stand)
 
 -- the groups that are left are groups
 left_groups : Premises → (g : Given) (rows : List FromRow) (left : List On) → having_groups g.plan rows ≡ Ok left → All (IsGroupOf (clauses g) rows) left

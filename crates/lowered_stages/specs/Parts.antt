@@ -22,6 +22,7 @@ use Rattle.typed_trees.specs.declared.typed.KeyRef.TheVariants.{Item, Column}
 use Rattle.typed_trees.specs.declared.typed.OrderKey.{OrderKey}
 use Rattle.typed_trees.specs.declared.typed.TypedExpr.{TypedExpr}
 use Rattle.typed_trees.specs.Names.{same_column}
+use Rattle.typed_trees.specs.Typed.{IsCondition}
 use Rattle.typed_trees.specs.Types.{DataType, no_aggregate, aggregate_type, types_of}
 use Rattle.std.specs.List.{list_any, list_all}
 use Rattle.typed_values.specs.Values.{On, Valued, value}
@@ -110,7 +111,7 @@ RowsUses = (def : TableDef) (source : ℕ) (columns : List ℕ) (k : ℕ) → Us
 abbrev pub KeptRuns : Type 1
 KeptRuns =
     (A : Type 0) (select : Control) (texts : List Bytes) (at : ℕ → Option DataType) (on : A → On) (len : ℕ) (rows : List A) (b : Base) (es : List TypedExpr) (k : ℕ) (store env : Env)
-    → All (CanValue at b) es → All (CanValueAll texts at on rows) es → IsBelow k b.vector → Stands texts b on len rows env
+    → All (IsCondition at) es → All (CanValue at b) es → All (CanValueAll texts at on rows) es → IsBelow k b.vector → Stands texts b on len rows env
     → Delivers store (kept select texts b es) k env (overs.kept (λ a. condition es (on a)) rows) (λ left c next after. Stands texts c on len left after × (IsBelow next c.vector × SamePlaces b c))
 
 abbrev pub KeptPasses : Type 0
