@@ -4,4 +4,6 @@ pub mod Bodies
 pub mod Runs
 pub mod Uses
 pub mod Checks
+pub mod Counts
+pub mod Short
 pub mod Whole

@@ -28,6 +28,7 @@ use Rattle.lowered_answers.proofs.Bodies.{body, program_is}
 use Rattle.lowered_answers.proofs.Runs.{RunLaws, Premises, Given, texts, store, HoldsAt, body_made}
 use Rattle.lowered_answers.proofs.Uses.{UseLaws, body_used}
 use Rattle.lowered_answers.proofs.Checks.{PassLaws, PlacesLaws, body_passes, passes_check}
+use Rattle.lowered_answers.proofs.Short.{SizeLaws, program_short}
 
 pub record AllLaws : Type 1 where
   pub runs : RunLaws
@@ -70,13 +71,8 @@ answer_holds a source select defs ts p can =
     let g = given source select defs ts p can in
     subst (λ (l : List Statement). HoldsAnswer (texts g) (length p.items) (plan_answer ts p) (meaning (store g) l)) (sym (ended_is g)) (means a g (plan_answer ts p) (body_made a.runs a.premises g))
 
--- no program has more statements than a program may have
-abbrev pub ShortLaw : Type 0
-ShortLaw = (select : Control) (defs : List TableDef) (ts : List Table) (p : RelPlan) → CanLower defs ts p → length (lowered select (database_of defs ts) p) ≤ 65536
-
-pub check_holds : AllLaws → SourceLaw → ShortLaw → CheckLaw
-check_holds a source short select defs ts p can =
+pub check_holds : AllLaws → SourceLaw → SizeLaws → CheckLaw
+check_holds a source sizes select defs ts p can =
     let g = given source select defs ts p can in
-    let few = subst (λ (l : List Statement). length l ≤ 65536) (ended_is g) (short select defs ts p can) in
-    let x = passes_check a.runs a.premises a.passes a.places g few in
+    let x = passes_check a.runs a.premises a.passes a.places g (program_short sizes g) in
     record { shape = x.0; passes = ap (check (outlines (store g))) (ended_is g) ∙ x.1.0; small = x.1.1 }
