@@ -18,7 +18,7 @@ use Rattle.expr_steps.specs.Codes.{Code, one, and_then}
 use Rattle.expr_steps.specs.Lowered.{Bytes, Part, part_of, lowered, form_code, zero, opposite, constants, binary, sign_step, divided, null_test, outside, unless_negated, by_polarity, found_among, any_equal, or_equal, found_equal, first_there, filled, filled_from, most_scale, times, raise}
 use Rattle.expr_steps.proofs.Forms.{lowered_roll}
 use Rattle.expr_counts.specs.Counts.{form_steps, most_steps, alone_steps, others_steps, in_steps, between_steps, binary_steps, FormLaw, NodeLaw, CountLaw}
-use Rattle.expr_counts.proofs.Most.{AtMost, then_most, none_most, one_most, opposite_most, times_most, binary_most, sign_most, null_test_most, polarity_most, between_most, found_equal_most, filled_from_most}
+use Rattle.expr_counts.proofs.Most.{AtMost, fewer, then_most, none_most, one_most, opposite_most, times_most, binary_most, sign_most, null_test_most, polarity_most, between_most, found_equal_most, filled_from_most}
 
 -- ---- the folds by form
 
@@ -48,7 +48,9 @@ any_equal_most texts x a (y ∷ ys) found =
 
 found_among_most : (texts : List Bytes) (x : Part) (a : Source) (ys : List ((e : TypedExpr) × Few texts e)) → AtMost (alone_steps (map most_steps (exprs texts ys)) + others_steps 3 (map most_steps (exprs texts ys))) (found_among texts x a (map (part_of texts) (exprs texts ys)))
 found_among_most texts x a [] = λ k. omega arith
-found_among_most texts x a (y ∷ ys) = any_equal_most texts x a (y ∷ ys) zero
+found_among_most texts x a (y ∷ ys) =
+    let n = others_steps 3 (map most_steps (exprs texts (y ∷ ys))) in
+    fewer n (0 + n) (any_equal texts x a (map (part_of texts) (exprs texts (y ∷ ys))) zero) (omega arith) (any_equal_most texts x a (y ∷ ys) zero)
 
 first_there_most : (texts : List Bytes) (to : ℕ) (ys : List ((e : TypedExpr) × Few texts e)) (found : Source) → AtMost (others_steps 2 (map most_steps (exprs texts ys))) (first_there to (map (part_of texts) (exprs texts ys)) found)
 first_there_most texts to [] found = λ k. omega arith

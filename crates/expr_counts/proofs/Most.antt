@@ -11,11 +11,13 @@ use Rattle.query_trees.specs.declared.expr.Polarity.TheVariants.{Plain, Negated}
 use Rattle.query_trees.specs.declared.expr.Sign.{Sign}
 use Rattle.query_trees.specs.declared.expr.Sign.TheVariants.{Plus, Minus}
 use Rattle.typed_values.specs.Narrow.{counted}
+use Rattle.typed_values.specs.Values.{holds}
+use Rattle.sql_values.specs.Texts.{by_bytes}
 use Rattle.expr_steps.specs.declared.steps.Factors.{Factors}
 use Rattle.expr_steps.specs.declared.steps.Source.{Source}
 use Rattle.expr_steps.specs.declared.steps.Source.TheVariants.{Number}
 use Rattle.expr_steps.specs.Codes.{Code, from_source, one, and_then}
-use Rattle.expr_steps.specs.Lowered.{Bytes, Part, opposite, by_polarity, times, raise, between_scales, factors_of, brought_together, comparing, compared_as, compared, binary, sign_step, outside, unless_negated, null_test, found_equal, filled_from}
+use Rattle.expr_steps.specs.Lowered.{Bytes, Part, opposite, by_polarity, times, raise, between_scales, factors_of, brought_together, known, comparing, compared_as, compared, binary, sign_step, outside, unless_negated, null_test, found_equal, filled_from}
 use Rattle.expr_counts.specs.Counts.{comparison_steps, binary_steps, in_steps, between_steps}
 
 abbrev pub AtMost : ℕ → Code → Type 0
@@ -114,8 +116,25 @@ one_more op.Multiply = omega arith
 brought_most : (o : BinaryOp) (f : Factors) (a b : Source) → StaysOne f → AtMost (comparison_steps o) (brought_together f a b (comparing o))
 brought_most o f a b h = fewer (1 + comparing_most o) (comparison_steps o) (brought_together f a b (comparing o)) (one_more o) (together_most (comparing_most o) f a b (comparing o) h (comparing_few o))
 
+-- two literals
+known_most : (h : Bool) (a b : Source) → AtMost 2 (known h a b)
+known_most h a b k = omega arith
+
+two_few : (o : BinaryOp) → 2 ≤ comparison_steps o
+two_few op.Or = omega arith
+two_few op.And = omega arith
+two_few op.Equal = omega arith
+two_few op.Differs = omega arith
+two_few op.Less = omega arith
+two_few op.LessEqual = omega arith
+two_few op.Greater = omega arith
+two_few op.GreaterEqual = omega arith
+two_few op.Add = omega arith
+two_few op.Subtract = omega arith
+two_few op.Multiply = omega arith
+
 compared_as_most : (o : BinaryOp) (s t : Option Bytes) (f : Factors) (a b : Source) → StaysOne f → AtMost (comparison_steps o) (compared_as o s t f a b)
-compared_as_most o (Some s) (Some t) f a b h = λ k. omega arith
+compared_as_most o (Some s) (Some t) f a b h = fewer 2 (comparison_steps o) (known (holds o (by_bytes s t)) a b) (two_few o) (known_most (holds o (by_bytes s t)) a b)
 compared_as_most o (Some s) None f a b h = brought_most o f a b h
 compared_as_most o None t f a b h = brought_most o f a b h
 
