@@ -1,5 +1,5 @@
 #!/usr/bin/env python3
-"""Times each operator of the algebra over 2^20 slots, and a program of more than 20 operators.
+"""Times each operator of the algebra over 2^20 slots, a program of more than 20 operators, and a chain of 25 Upserts.
 
     bench/algebra.py [--rounds N]
 
@@ -92,6 +92,9 @@ Persist(scan, c1)
 Persist(m, m1)
 """.replace("Persist(v, v1)", "at = Range(1, .at, 0, 0, 0, 1)\nv1 = Gather(v, at, .at)\ns1 = Gather(sums, at, .at)\nl1 = Gather(least, at, .at)\nc1 = Gather(scan, at, .at)\nm1 = Gather(m, at, .at)\nPersist(v, v1)")
 
+# The chain of a query's columns: each Upsert reads the vector before it, which nothing reads later.
+UPSERTS = "t = Load(t)\nr0 = Materialize(t)\n" + "".join(f"r{i + 1} = Upsert(r{i}, .v{i}, t, .a)\n" for i in range(25)) + "v = Materialize(r25)\n" + END
+
 
 def columns():
     """Two columns, of a linear congruence: places 0 to 2^20 - 1, each once, and whole numbers of seven digits."""
@@ -160,6 +163,7 @@ def main():
         base, base_peak = measured(folder, START + "v = Materialize(t)\n" + END, rounds)
         found = [measured(folder, START + line + "\n" + END, rounds) for _, line, _ in OPERATORS]
         whole, whole_peak = measured(folder, CHAIN, rounds)
+        chain, chain_peak = measured(folder, UPSERTS, rounds)
     print("| operator | ms over 2^20 slots | numpy | peak MB |\n|---|---|---|---|")
     print(f"| loading alone | {base * 1000:.0f} | | {base_peak:.0f} |")
     # Only now, since a child's peak counts what its parent holds.
@@ -168,6 +172,7 @@ def main():
         other = "" if beside is None else f"{beside * 1000:.1f}"
         print(f"| {name} | {max(took - base, 0) * 1000:.0f} | {other} | {peak:.0f} |")
     print(f"| a program of 25 operators | {whole * 1000:.0f} with loading | | {whole_peak:.0f} |")
+    print(f"| a chain of 25 Upserts | {chain * 1000:.0f} with loading | | {chain_peak:.0f} |")
 
 
 if __name__ == "__main__":

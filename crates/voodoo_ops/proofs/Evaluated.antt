@@ -1,128 +1,121 @@
 -- Statements one by one.
-use Rattle.std.proofs.Common.{◌≡◌, ℕ, ◌+◌, ◌<◌, ◌≤◌, List, [], ◌∷◌, ◌++◌, Bool, true, false, refl, ap, sym, ◌∙◌, length, drop, get_or, arith, append_assoc, Ok, Err}
+use Rattle.std.proofs.Common.{◌≡◌, ℕ, ◌+◌, ◌<◌, ◌≤◌, List, [], ◌∷◌, ◌++◌, Bool, true, false, ◌||◌, refl, ap, sym, ◌∙◌, subst, length, drop, get_or, arith, append_assoc, Result, Ok, Err}
 use Rattle.std.proofs.lemmas.List.{drop_more, drop_all, get_or_default}
 use Rattle.control_vectors.specs.Slots.{over}
-use Rattle.programs.specs.Families.{Family, family, Persist}
+use Rattle.control_vectors.specs.declared.Over.{Over}
+use Rattle.last_readers.specs.Readers.{AreLast, is_read}
+use Rattle.last_readers.specs.declared.last.LastReaders.{LastReaders}
+use Rattle.programs.specs.Families.{family}
 use Rattle.programs.specs.declared.op.Op.TheVariants as op
 use Rattle.programs.specs.declared.op.Statement.{Statement}
-use Rattle.programs.specs.Mentions.{Label}
+use Rattle.programs.specs.Mentions.{Label, is_persist, has_name}
 use Rattle.programs.specs.Vectors.{Env, Named, nothing}
 use Rattle.programs.specs.Outlines.{outlines}
-use Rattle.programs.specs.Reaching.{chosen, Chooses}
-use Rattle.voodoo_ops.specs.Meaning.{result_of, results, Run, step, then_run, run_from}
-use Rattle.voodoo_ops.specs.Fits.{Fits, CanShow, CanShowAll, Runnable}
-use Rattle.voodoo_ops.proofs.Ready.{Ready, ready_start, ready_fits, ready_next, ready_skip, Shown, shown_start, shown_next, shown_end}
+use Rattle.programs.specs.Reaching.{Reached, reach_if, reach_one, reached, is_reached}
+use Rattle.slot_columns.specs.declared.stop.Stop.{Stop}
+use Rattle.slot_columns.specs.declared.stop.Stop.TheVariants.{NoMemory, Overflow}
+use Rattle.slot_columns.specs.Stops.{StopsAt}
+use Rattle.voodoo_ops.specs.Later.{reads, Keeps, Advances}
+use Rattle.voodoo_ops.specs.Meaning.{Run, result_of, step, meaning}
+use Rattle.voodoo_ops.specs.Fits.{Fits, Runnable}
+use Rattle.voodoo_ops.specs.Streams.{SameFor, behind, then_show, results_from}
+use Rattle.voodoo_ops.specs.declared.later.Later.{Later}
+use Rattle.voodoo_ops.proofs.Needed.{results_same, ready_same}
+use Rattle.voodoo_ops.proofs.Ready.{Ready, ready_start, ready_fits, ready_next, ready_skip}
+use Rattle.voodoo_ops.proofs.Settled.{settled, settled_kept, shown_settled}
 
-pub here_is : (statements : List Statement) (i : ℕ) (s : Statement) → i < length statements → s ≡ get_or statements i s → drop i statements ≡ s ∷ drop (i + 1) statements
-here_is statements i s h at = drop_more statements i s h ∙ ap (λ (x : Statement). x ∷ drop (i + 1) statements) (sym at)
+-- ---- results, and those behind them
+behind_none : (r : Result Named Over) → r ≡ behind [] r
+behind_none (Err e) = refl
+behind_none (Ok named) = refl
 
-pub chosen_on : (marks : List Bool) (statements : List Statement) (i : ℕ) (s : Statement) → length marks ≡ length statements → i < length statements → get_or marks i false ≡ true → s ≡ get_or statements i s → chosen (drop i marks) (drop i statements) ≡ s ∷ chosen (drop (i + 1) marks) (drop (i + 1) statements)
-chosen_on marks statements i s each h on at =
-    let mark : drop i marks ≡ true ∷ drop (i + 1) marks = drop_more marks i false (omega (arith, each)) ∙ ap (λ (b : Bool). b ∷ drop (i + 1) marks) on in
-    rw (mark, here_is statements i s h at) refl
-
-pub chosen_off : (marks : List Bool) (statements : List Statement) (i : ℕ) → length marks ≡ length statements → i < length statements → get_or marks i false ≡ false → chosen (drop i marks) (drop i statements) ≡ chosen (drop (i + 1) marks) (drop (i + 1) statements)
-chosen_off marks statements i each h off = more (get_or statements i none) (drop_more statements i none h)
-  where
-    none : Statement
-    none = record { name = []; op = op.Persist [] }
-
-    mark : drop i marks ≡ false ∷ drop (i + 1) marks
-    mark = drop_more marks i false (omega (arith, each)) ∙ ap (λ (b : Bool). b ∷ drop (i + 1) marks) off
-
-    more : (s : Statement) → drop i statements ≡ s ∷ drop (i + 1) statements → chosen (drop i marks) (drop i statements) ≡ chosen (drop (i + 1) marks) (drop (i + 1) statements)
-    more s here = rw (mark, here) refl
-
-pub chosen_end : (marks : List Bool) (statements : List Statement) (i : ℕ) → length marks ≡ length statements → length statements ≤ i → chosen (drop i marks) (drop i statements) ≡ []
-chosen_end marks statements i each h = rw (drop_all i marks (omega (arith, each))) refl
-
--- ---- a run that has come to a statement
-pub record Going (store env : Env) (marks : List Bool) (statements : List Statement) (i : ℕ) : Type 0 where
-  pub so_far : run_from store (chosen marks statements) nothing ≡ run_from store (chosen (drop i marks) (drop i statements)) env
-  pub ready : Ready store env (drop i statements)
-  pub shown : Shown env (chosen marks statements) (chosen (drop i marks) (drop i statements))
-
-pub going_start : (store env : Env) (marks : List Bool) (statements : List Statement) → env ≡ nothing → Runnable store statements → Going store env marks statements 0
-going_start store env marks statements e r = rw e (record {
-  so_far = refl;
-  ready = ready_start store statements r;
-  shown = shown_start nothing (chosen marks statements) (chosen marks statements) refl;
-})
-
-pub going_fits : (store env : Env) (marks : List Bool) (statements : List Statement) (i : ℕ) (s : Statement) → Chooses marks statements → i < length statements → get_or marks i false ≡ true → s ≡ get_or statements i s → Going store env marks statements i → Fits (outlines store) (outlines env) (family s.op)
-going_fits store env marks statements i s c h on at g =
-    ready_fits store env s (drop (i + 1) statements) (rw (here_is statements i s h at) at g.ready) (sym (c.at i s h at) ∙ on)
-
-pub going_on : (store env now : Env) (marks : List Bool) (statements : List Statement) (i : ℕ) (s : Statement) → Chooses marks statements → i < length statements → get_or marks i false ≡ true → s ≡ get_or statements i s → step store env s.name s.op ≡ Ok now → Going store env marks statements i → Going store now marks statements (i + 1)
-going_on store env now marks statements i s c h on at made g =
-    let first = chosen_on marks statements i s c.each h on at in
-    let left = chosen (drop (i + 1) marks) (drop (i + 1) statements) in
-    record {
-      so_far = g.so_far ∙ ap (λ (l : List Statement). run_from store l env) first ∙ ap (λ (r : Run). then_run r (run_from store left)) made;
-      ready = ready_next store env now s (drop (i + 1) statements) (rw (here_is statements i s h at) at g.ready) (sym (c.at i s h at) ∙ on) made;
-      shown = shown_next store env now (chosen marks statements) (chosen (drop i marks) (drop i statements)) left s first (going_fits store env marks statements i s c h on at g) made g.shown;
-    }
-
-pub going_off : (store env : Env) (marks : List Bool) (statements : List Statement) (i : ℕ) → Chooses marks statements → i < length statements → get_or marks i false ≡ false → Going store env marks statements i → Going store env marks statements (i + 1)
-going_off store env marks statements i c h off g =
-    let none : Statement = record { name = []; op = op.Persist [] } in
-    let s = get_or statements i none in
-    let at = get_or_default statements i none s h in
-    let same = chosen_off marks statements i c.each h off in
-    record {
-      so_far = g.so_far ∙ ap (λ (l : List Statement). run_from store l env) same;
-      ready = ready_skip store env s (drop (i + 1) statements) (rw (here_is statements i s h at) at g.ready) (sym (c.at i s h at) ∙ off);
-      shown = rw same at g.shown;
-    }
-
-pub going_over : (store env : Env) (marks : List Bool) (statements : List Statement) (i : ℕ) (s : Statement) → Chooses marks statements → i < length statements → get_or marks i false ≡ true → s ≡ get_or statements i s → step store env s.name s.op ≡ Err over → Going store env marks statements i → run_from store (chosen marks statements) nothing ≡ Err over
-going_over store env marks statements i s c h on at made g =
-    let left = chosen (drop (i + 1) marks) (drop (i + 1) statements) in
-    g.so_far ∙ ap (λ (l : List Statement). run_from store l env) (chosen_on marks statements i s c.each h on at) ∙ ap (λ (r : Run). then_run r (run_from store left)) made
-
-pub going_end : (store env : Env) (marks : List Bool) (statements : List Statement) (i : ℕ) → Chooses marks statements → length statements ≤ i → Going store env marks statements i → run_from store (chosen marks statements) nothing ≡ Ok env
-going_end store env marks statements i c h g = g.so_far ∙ ap (λ (l : List Statement). run_from store l env) (chosen_end marks statements i c.each h)
-
-pub going_shows : (store env : Env) (marks : List Bool) (statements : List Statement) (i : ℕ) → Chooses marks statements → length statements ≤ i → Going store env marks statements i → CanShowAll env (chosen marks statements)
-going_shows store env marks statements i c h g = shown_end env (chosen marks statements) _ (chosen_end marks statements i c.each h) g.shown
-
--- ---- results
-result_of-append : (env : Env) (n : Label) (op : Family) (rest : Named) → result_of env n op rest ≡ result_of env n op [] ++ rest
-result_of-append env n (Persist a) rest = refl
-result_of-append env n _ rest = refl
-
--- the results so far, and that those that are left can be shown
-pub record Naming (env : Env) (marks : List Bool) (statements : List Statement) (i : ℕ) (named : Named) : Type 0 where
-  pub so_far : results env (chosen marks statements) ≡ named ++ results env (chosen (drop i marks) (drop i statements))
-  pub left : CanShowAll env (chosen (drop i marks) (drop i statements))
-
-pub naming_start : (env : Env) (marks : List Bool) (statements : List Statement) (named : Named) → named ≡ [] → CanShowAll env (chosen marks statements) → Naming env marks statements 0 named
-naming_start env marks statements named e h = rw e (record { so_far = refl; left = h })
-
-pub naming_shows : (env : Env) (marks : List Bool) (statements : List Statement) (i : ℕ) (s : Statement) (named : Named) → length marks ≡ length statements → i < length statements → get_or marks i false ≡ true → s ≡ get_or statements i s → Naming env marks statements i named → CanShow env (family s.op)
-naming_shows env marks statements i s named each h on at n = let l = rw (chosen_on marks statements i s each h on at) at n.left in l.0
-
-pub naming_on : (env : Env) (marks : List Bool) (statements : List Statement) (i : ℕ) (s : Statement) (named more : Named) → length marks ≡ length statements → i < length statements → get_or marks i false ≡ true → s ≡ get_or statements i s → more ≡ named ++ result_of env s.name (family s.op) [] → Naming env marks statements i named → Naming env marks statements (i + 1) more
-naming_on env marks statements i s named more each h on at m n =
-    let first = chosen_on marks statements i s each h on at in
-    let rest = results env (chosen (drop (i + 1) marks) (drop (i + 1) statements)) in
-    let l = rw first at n.left in
-    record {
-      so_far = n.so_far ∙ ap (λ (l : List Statement). named ++ results env l) first
-          ∙ ap (λ (l : Named). named ++ l) (result_of-append env s.name (family s.op) rest)
-          ∙ sym (append_assoc named (result_of env s.name (family s.op) []) rest)
-          ∙ ap (λ (l : Named). l ++ rest) (sym m);
-      left = l.1;
-    }
-
-pub naming_off : (env : Env) (marks : List Bool) (statements : List Statement) (i : ℕ) (named : Named) → length marks ≡ length statements → i < length statements → get_or marks i false ≡ false → Naming env marks statements i named → Naming env marks statements (i + 1) named
-naming_off env marks statements i named each h off n =
-    let same = chosen_off marks statements i each h off in
-    record { so_far = n.so_far ∙ ap (λ (l : List Statement). named ++ results env l) same; left = rw same at n.left }
+behind_both : (xs ys : Named) (r : Result Named Over) → behind xs (behind ys r) ≡ behind (xs ++ ys) r
+behind_both xs ys (Err e) = refl
+behind_both xs ys (Ok named) = ap (λ (l : Named). let r : Result Named Over = Ok l in r) (sym (append_assoc xs ys named))
 
 append_empty : (xs : Named) → xs ++ [] ≡ xs
 append_empty [] = refl
 append_empty (x ∷ xs) = ap (λ (l : Named). x ∷ l) (append_empty xs)
 
-pub naming_end : (env : Env) (marks : List Bool) (statements : List Statement) (i : ℕ) (named : Named) → length marks ≡ length statements → length statements ≤ i → Naming env marks statements i named → named ≡ results env (chosen marks statements)
-naming_end env marks statements i named each h n = sym (n.so_far ∙ ap (λ (l : List Statement). named ++ results env l) (chosen_end marks statements i each h) ∙ append_empty named)
+-- ---- the statements from one on
+here_is : (statements : List Statement) (i : ℕ) (s : Statement) → i < length statements → s ≡ get_or statements i s → drop i statements ≡ s ∷ drop (i + 1) statements
+here_is statements i s h at = drop_more statements i s h ∙ ap (λ (x : Statement). x ∷ drop (i + 1) statements) (sym at)
+
+reached_is : (statements : List Statement) (i : ℕ) (s : Statement) (b : Bool) → i < length statements → s ≡ get_or statements i s → is_reached (reached [] (drop (i + 1) statements)).names s ≡ b → reached [] (drop i statements) ≡ reach_if b s (reached [] (drop (i + 1) statements))
+reached_is statements i s b h at e =
+    ap (reached []) (here_is statements i s h at) ∙ ap (λ (c : Bool). reach_if c s (reached [] (drop (i + 1) statements))) e
+
+-- by the last readers
+reads_is : (r : LastReaders) (i : ℕ) (later : Later) (n : Label) → later.readers.now ≡ r → later.from ≡ i + 1 → reads later n ≡ is_read r (i + 1) n
+reads_is r i later n same from = ap (λ (q : LastReaders). is_read q later.from n) same ∙ ap (λ (k : ℕ). is_read r k n) from
+
+pub reached_as : (r : LastReaders) (statements : List Statement) (i : ℕ) (s : Statement) (b : Bool) → AreLast r statements → b ≡ (is_persist s.op || is_read r (i + 1) s.name) → is_reached (reached [] (drop (i + 1) statements)).names s ≡ b
+reached_as r statements i s b last e = ap (λ (c : Bool). is_persist s.op || c) (last (i + 1) s.name) ∙ sym e
+
+same_for : (r : LastReaders) (statements : List Statement) (i : ℕ) (later : Later) (env now : Env) → AreLast r statements → Keeps later env now → later.readers.now ≡ r → later.from ≡ i + 1 → SameFor (drop (i + 1) statements) env now
+same_for r statements i later env now last keeps same from m e = keeps m (reads_is r i later m same from ∙ sym (last (i + 1) m) ∙ e)
+
+-- ---- a run that has come to a statement
+pub record Going (store env : Env) (statements : List Statement) (i : ℕ) (named : Named) : Type 0 where
+  pub so_far : results_from store (reached [] statements).kept nothing ≡ behind named (results_from store (reached [] (drop i statements)).kept env)
+  pub ready : Ready store env (drop i statements)
+
+pub going_start : (store env : Env) (statements : List Statement) (named : Named) → env ≡ nothing → named ≡ [] → Runnable store statements → Going store env statements 0 named
+going_start store env statements named e n r = rw (e, n) (record {
+  so_far = behind_none (results_from store (reached [] statements).kept nothing);
+  ready = ready_start store statements r;
+})
+
+pub going_fits : (store env : Env) (statements : List Statement) (i : ℕ) (s : Statement) (named : Named) → i < length statements → s ≡ get_or statements i s → is_reached (reached [] (drop (i + 1) statements)).names s ≡ true → Going store env statements i named → Fits (outlines store) (outlines env) (family s.op)
+going_fits store env statements i s named h at on g = ready_fits store env s (drop (i + 1) statements) (rw (here_is statements i s h at) at g.ready) on
+
+-- what the statement gives, and then those behind it
+from_here : (store env : Env) (statements : List Statement) (i : ℕ) (s : Statement) (named : Named) (r : Run) → i < length statements → s ≡ get_or statements i s → is_reached (reached [] (drop (i + 1) statements)).names s ≡ true → step store env s.name s.op ≡ r → Going store env statements i named → results_from store (reached [] statements).kept nothing ≡ behind named (behind (result_of env s.name (family s.op) []) (then_show r (results_from store (reached [] (drop (i + 1) statements)).kept)))
+from_here store env statements i s named r h at on made g =
+    let rest = (reached [] (drop (i + 1) statements)).kept in
+    g.so_far
+    ∙ ap (λ (q : Reached). behind named (results_from store q.kept env)) (reached_is statements i s true h at on)
+    ∙ ap (λ (x : Run). behind named (behind (result_of env s.name (family s.op) []) (then_show x (results_from store rest)))) made
+
+pub going_on : (store env next now : Env) (statements : List Statement) (i : ℕ) (s : Statement) (named more : Named) → i < length statements → s ≡ get_or statements i s → is_reached (reached [] (drop (i + 1) statements)).names s ≡ true → step store env s.name s.op ≡ Ok next → SameFor (drop (i + 1) statements) next now → more ≡ named ++ result_of env s.name (family s.op) [] → Going store env statements i named → Going store now statements (i + 1) more
+going_on store env next now statements i s named more h at on made same m g =
+    let rest = drop (i + 1) statements in
+    let shows = result_of env s.name (family s.op) [] in
+    record {
+      so_far = from_here store env statements i s named (Ok next) h at on made g
+          ∙ behind_both named shows (results_from store (reached [] rest).kept next)
+          ∙ ap (behind (named ++ shows)) (results_same store rest next now same)
+          ∙ ap (λ (l : Named). behind l (results_from store (reached [] rest).kept now)) (sym m);
+      ready = ready_same store next now rest same (ready_next store env next s rest (rw (here_is statements i s h at) at g.ready) on made);
+    }
+
+pub going_off : (store env : Env) (statements : List Statement) (i : ℕ) (s : Statement) (named : Named) → i < length statements → s ≡ get_or statements i s → is_reached (reached [] (drop (i + 1) statements)).names s ≡ false → Going store env statements i named → Going store env statements (i + 1) named
+going_off store env statements i s named h at off g = record {
+  so_far = g.so_far ∙ ap (λ (q : Reached). behind named (results_from store q.kept env)) (reached_is statements i s false h at off);
+  ready = ready_skip store env s (drop (i + 1) statements) (rw (here_is statements i s h at) at g.ready) off;
+}
+
+-- ---- what the program means
+pub means : (store : Env) (statements : List Statement) → Runnable store statements → meaning store statements ≡ results_from store (reached [] statements).kept nothing
+means store statements r =
+    let ready = ready_start store statements r in
+    shown_settled store (reached [] statements).kept nothing (settled_kept [] statements (settled (outlines store) statements ready.known ready.after ready.passes))
+
+pub going_end : (store env : Env) (statements : List Statement) (i : ℕ) (named : Named) → length statements ≤ i → Runnable store statements → Going store env statements i named → meaning store statements ≡ Ok named
+going_end store env statements i named h r g =
+    means store statements r ∙ g.so_far
+    ∙ ap (λ (l : List Statement). behind named (results_from store (reached [] l).kept env)) (drop_all i statements h)
+    ∙ ap (λ (l : Named). let x : Result Named Over = Ok l in x) (append_empty named)
+
+-- one statement more, as the run does it
+pub going_next : {A : Type 0} (readers : LastReaders) (store env now : Env) (statements : List Statement) (i : ℕ) (s : Statement) (later : Later) (x : A) (named more : Named) → AreLast readers statements → later.readers.now ≡ readers → later.from ≡ i + 1 → i < length statements → s ≡ get_or statements i s → true ≡ (is_persist s.op || is_read readers (i + 1) s.name) → Advances later (Ok x) (step store env s.name s.op) now → more ≡ named ++ result_of env s.name (family s.op) [] → Going store env statements i named → Going store now statements (i + 1) more
+going_next readers store env now statements i s later x named more last same from h at on adv m g = by (step store env s.name s.op) refl adv
+  where
+    by : (r : Run) → step store env s.name s.op ≡ r → Advances later (Ok x) r now → Going store now statements (i + 1) more
+    by (Err e) q a = absurd a
+    by (Ok next) q a = going_on store env next now statements i s named more h at (reached_as readers statements i s true last on) q (same_for readers statements i later next now last a same from) m g
+
+pub going_stops : (readers : LastReaders) (store env : Env) (statements : List Statement) (i : ℕ) (s : Statement) (e : Stop) (named : Named) → AreLast readers statements → i < length statements → s ≡ get_or statements i s → true ≡ (is_persist s.op || is_read readers (i + 1) s.name) → StopsAt e (step store env s.name s.op) → Runnable store statements → Going store env statements i named → StopsAt e (meaning store statements)
+going_stops readers store env statements i s NoMemory named last h at on stops r g = tt
+going_stops readers store env statements i s Overflow named last h at on stops r g =
+    means store statements r ∙ from_here store env statements i s named (Err over) h at (reached_as readers statements i s true last on) stops g

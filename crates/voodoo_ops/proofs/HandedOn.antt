@@ -13,16 +13,17 @@ use Rattle.programs.specs.Mentions.{Label}
 use Rattle.programs.specs.Vectors.{Attribute, Vector, slots_of, seen, seen_attributes}
 use Rattle.programs.specs.Merges.{entered, merged}
 use Rattle.programs.specs.Moves as paths
-use Rattle.programs.specs.Moves.{moved, others}
+use Rattle.programs.specs.Moves.{moved, others, is_deep}
 use Rattle.programs.specs.Orders.{Rises}
 use Rattle.programs.specs.Outlines.{outlined, outline_of}
-use Rattle.programs.specs.Faults.{path_clash, all_apart, IsClear}
+use Rattle.programs.specs.Faults.{path_clash, too_deep, all_apart, IsClear}
 use Rattle.programs.proofs.Merging.{merged-map, merged-all, rises_merged, rises_ascending}
 use Rattle.programs.proofs.Nesting.{apart_in_order}
 use Rattle.programs.proofs.Projections.{rises_filter, rises_projected, rises_some}
 use Rattle.voodoo_ops.specs.Attributes.{comes_before, projected, resized, upserted}
 use Rattle.voodoo_ops.specs.Columns.{Attributes, earlier, moved_columns, others_of}
 use Rattle.voodoo_ops.proofs.Listed.{seen_moved, seen_others, length-resized}
+use Rattle.voodoo_ops.proofs.Seen.{paths-seen}
 use Rattle.voodoo_ops.proofs.Shapes.{shaped_by}
 
 -- ---- the outline of a vector
@@ -62,6 +63,21 @@ project_shaped n p q v w items e is same s ends each clear =
     each
     (rises_some (paths_of items) (λ h. let both = ends (omega (arith, h, length-map items (λ (a : Label × ColumnValue). a.0))) in subst Rises (sym names) (rises_projected p q (outlined v.length (paths_of v.attributes)) both.0 both.1 (clear_shaped v s))))
     (ap (λ (u : Vector). path_clash (outline_of u)) (project_seen n p q v w items e is same) ∙ clear)
+
+-- ---- the attributes that Project moves
+pub all_below : (p : Label) (attributes : Attributes) → All (λ t. is_at_or_below t.0 p ≡ true) (filter (λ t. is_at_or_below t.0 p) attributes)
+all_below p [] = All-nil (λ t. is_at_or_below t.0 p ≡ true)
+all_below p (a ∷ attributes) = by (all_below p attributes) (is_at_or_below a.0 p) refl
+  where
+    by : All (λ t. is_at_or_below t.0 p ≡ true) (filter (λ t. is_at_or_below t.0 p) attributes) → (b : Bool) → is_at_or_below a.0 p ≡ b → All (λ t. is_at_or_below t.0 p ≡ true) (if b then a ∷ filter (λ t. is_at_or_below t.0 p) attributes else filter (λ t. is_at_or_below t.0 p) attributes)
+    by rest true e = All-cons (λ t. is_at_or_below t.0 p ≡ true) a (filter (λ t. is_at_or_below t.0 p) attributes) e rest
+    by rest false e = rest
+
+pub below_shallow : (p q : Label) (v : VectorValue) (w : Vector) → seen v ≡ w → too_deep (outline_of (projected w p q)) ≡ false → list_any is_deep (paths_of (moved_columns p q v.attributes)) ≡ false
+below_shallow p q v w same shallow =
+    ap (list_any is_deep) (sym (paths-seen (moved_columns p q v.attributes)))
+    ∙ ap (λ (l : List Attribute). list_any is_deep (map (λ t. t.0) l)) (seen_moved p q v.attributes)
+    ∙ ap (λ (u : Vector). too_deep (outline_of (projected u p q))) same ∙ shallow
 
 -- ---- Upsert
 insert_later : {A : Type 0} (y : A) (ys : List A) (k : ℕ) (x : A) → insert (y ∷ ys) (1 + k) x ≡ y ∷ insert ys k x

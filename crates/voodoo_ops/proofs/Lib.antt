@@ -1,4 +1,3 @@
-pub mod Envs
 pub mod RunMarks
 pub mod Seen
 pub mod Readings
@@ -21,3 +20,8 @@ pub mod Compositions
 pub mod ColumnSum
 pub mod Literals
 pub mod Sorted
+pub mod SameEffects
+pub mod Settled
+pub mod Needed
+pub mod Kept
+pub mod Popped

@@ -1,5 +1,5 @@
 -- Attributes that are listed one by one.
-use Rattle.std.proofs.Common.{◌≡◌, ℕ, zero, suc, ◌+◌, ◌<◌, ◌≤◌, Bool, true, false, ◌||◌, not, cond, if◌then◌else◌, None, List, [], ◌∷◌, ◌++◌, map, filter, take, length, get_or, refl, sym, ap, ◌∙◌, arith}
+use Rattle.std.proofs.Common.{◌≡◌, ℕ, ◌+◌, ◌<◌, ◌≤◌, Bool, true, false, ◌||◌, not, cond, if◌then◌else◌, None, List, [], ◌∷◌, ◌++◌, map, filter, take, length, get_or, refl, sym, ap, ◌∙◌, arith, append_assoc}
 use Rattle.std.specs.Prelude.{All}
 use Rattle.std.specs.List.{list_any}
 use Rattle.std.proofs.lemmas.List.{take_more, map-append, length-take, get_or-take}
@@ -15,71 +15,55 @@ use Rattle.programs.specs.Mentions.{Label}
 use Rattle.programs.specs.Vectors.{Attribute, seen_attributes}
 use Rattle.programs.specs.Moves.{moved, is_deep}
 use Rattle.voodoo_ops.specs.Attributes.{below, beside, resized}
-use Rattle.voodoo_ops.specs.Columns.{Attributes, no_attribute, path_at, column_at, moved_columns, others_of}
+use Rattle.voodoo_ops.specs.Columns.{Attributes, fronts, front_column, moved_columns, others_of}
+use Rattle.voodoo_ops.specs.Handing.{is_on, on_side, under}
+use Rattle.voodoo_ops.specs.declared.attributes.Side.{Side}
 use Rattle.voodoo_ops.specs.Moves.{moved_to}
-
--- ---- attributes at some places
-seen_more : (attributes : Attributes) (k : ℕ) → k < length attributes → seen_attributes (take (k + 1) attributes) ≡ seen_attributes (take k attributes) ++ ((get_or attributes k no_attribute).0, (get_or attributes k no_attribute).1.slots) ∷ []
-seen_more attributes k h =
-    ap seen_attributes (take_more attributes k no_attribute h) ∙ map-append (λ (a : Label × ColumnValue). (a.0, a.1.slots)) (take k attributes) (get_or attributes k no_attribute ∷ [])
-
-pub gathered_more : (places : List Slot) (v : VectorValue) (k : ℕ) (old now : List Attribute) → k < length v.attributes → now ≡ old ++ moved_to places ((path_at v k, (column_at v k).slots) ∷ []) → old ≡ moved_to places (seen_attributes (take k v.attributes)) → now ≡ moved_to places (seen_attributes (take (k + 1) v.attributes))
-gathered_more places v k old now h m e =
-    m ∙ ap (λ (l : List Attribute). l ++ moved_to places ((path_at v k, (column_at v k).slots) ∷ [])) e
-    ∙ sym (map-append (λ (t : Attribute). (t.0, gathered t.1 places)) (seen_attributes (take k v.attributes)) ((path_at v k, (column_at v k).slots) ∷ []))
-    ∙ sym (ap (moved_to places) (seen_more v.attributes k h))
-
--- ---- attributes that are chosen by their paths
-path_is : (attributes : Attributes) (k : ℕ) (p : Label) → k < length attributes → p ≡ get_or (paths_of attributes) k p → (get_or attributes k no_attribute).0 ≡ p
-path_is [] k p h e = absurd (omega arith)
-path_is (a ∷ attributes) zero p h e = sym e
-path_is (a ∷ attributes) (suc k) p h e = path_is attributes k p (omega arith) e
-
-pub path_here : (v : VectorValue) (k : ℕ) (p : Label) → k < length v.attributes → p ≡ get_or (paths_of v.attributes) k p → path_at v k ≡ p
-path_here v k p h e = path_is v.attributes k p h e
-
-pub others_more : (p : Label) (v : VectorValue) (k : ℕ) (old now : Attributes) → k < length v.attributes → is_at_or_below (path_at v k) p ≡ false → now ≡ old ++ (path_at v k, column_at v k) ∷ [] → old ≡ others_of p (take k v.attributes) → now ≡ others_of p (take (k + 1) v.attributes)
-others_more p v k old now h off m e =
-    m ∙ ap (λ (l : Attributes). l ++ (path_at v k, column_at v k) ∷ []) e
-    ∙ ap (λ (b : Bool). others_of p (take k v.attributes) ++ cond (not b) (get_or v.attributes k no_attribute ∷ []) []) (sym off)
-    ∙ sym (filter_more (λ (t : Label × ColumnValue). not (is_at_or_below t.0 p)) v.attributes k no_attribute h)
 
 append_none : (xs : Attributes) → xs ≡ xs ++ []
 append_none [] = refl
 append_none (x ∷ xs) = ap (λ (l : Attributes). x ∷ l) (append_none xs)
 
-pub others_same : (p : Label) (v : VectorValue) (k : ℕ) (old : Attributes) → k < length v.attributes → is_at_or_below (path_at v k) p ≡ true → old ≡ others_of p (take k v.attributes) → old ≡ others_of p (take (k + 1) v.attributes)
-others_same p v k old h on e =
-    e ∙ append_none (others_of p (take k v.attributes))
-    ∙ ap (λ (b : Bool). others_of p (take k v.attributes) ++ cond (not b) (get_or v.attributes k no_attribute ∷ []) []) (sym on)
-    ∙ sym (filter_more (λ (t : Label × ColumnValue). not (is_at_or_below t.0 p)) v.attributes k no_attribute h)
+-- ---- one more attribute of a list
+take_next : (xs : Attributes) (k : ℕ) (t : Label × ColumnValue) → k < length xs → t ≡ get_or xs k t → take (k + 1) xs ≡ take k xs ++ t ∷ []
+take_next xs k t h at = take_more xs k t h ∙ ap (λ (u : Label × ColumnValue). take k xs ++ u ∷ []) (sym at)
+
+-- at some places
+pub gathered_more : (places : List Slot) (xs : Attributes) (k : ℕ) (t : Label × ColumnValue) (old now : List Attribute) → k < length xs → t ≡ get_or xs k t → now ≡ old ++ moved_to places ((t.0, t.1.slots) ∷ []) → old ≡ moved_to places (seen_attributes (take k xs)) → now ≡ moved_to places (seen_attributes (take (k + 1) xs))
+gathered_more places xs k t old now h at m e =
+    m ∙ ap (λ (l : List Attribute). l ++ moved_to places ((t.0, t.1.slots) ∷ [])) e
+    ∙ sym (map-append (λ (u : Attribute). (u.0, gathered u.1 places)) (seen_attributes (take k xs)) ((t.0, t.1.slots) ∷ []))
+    ∙ ap (moved_to places) (sym (ap seen_attributes (take_next xs k t h at) ∙ map-append (λ (a : Label × ColumnValue). (a.0, a.1.slots)) (take k xs) (t ∷ [])))
+
+-- its first slots
+pub fronts_more : (n : ℕ) (xs : Attributes) (k : ℕ) (t : Label × ColumnValue) (old now : Attributes) → k < length xs → t ≡ get_or xs k t → now ≡ old ++ (t.0, front_column n t.1) ∷ [] → old ≡ fronts n (take k xs) → now ≡ fronts n (take (k + 1) xs)
+fronts_more n xs k t old now h at m e =
+    m ∙ ap (λ (l : Attributes). l ++ (t.0, front_column n t.1) ∷ []) e
+    ∙ sym (ap (fronts n) (take_next xs k t h at) ∙ map-append (λ (u : Label × ColumnValue). (u.0, front_column n u.1)) (take k xs) (t ∷ []))
+
+-- on one side of a path
+abbrev if_on : Side → Label → Label × ColumnValue → Attributes
+if_on side p t = cond (is_on side t.0 p) (t ∷ []) []
+
+chosen_next : (side : Side) (p : Label) (xs : Attributes) (k : ℕ) (t : Label × ColumnValue) → k < length xs → t ≡ get_or xs k t → on_side side p (take (k + 1) xs) ≡ on_side side p (take k xs) ++ if_on side p t
+chosen_next side p xs k t h at = filter_more (λ (u : Label × ColumnValue). is_on side u.0 p) xs k t h ∙ ap (λ (u : Label × ColumnValue). on_side side p (take k xs) ++ if_on side p u) (sym at)
+
+pub copies_more : (side : Side) (p : Label) (xs : Attributes) (k : ℕ) (t : Label × ColumnValue) (old now : Attributes) → k < length xs → t ≡ get_or xs k t → is_on side t.0 p ≡ true → now ≡ old ++ t ∷ [] → old ≡ on_side side p (take k xs) → now ≡ on_side side p (take (k + 1) xs)
+copies_more side p xs k t old now h at on m e =
+    m ∙ ap (λ (l : Attributes). l ++ t ∷ []) e
+    ∙ ap (λ (b : Bool). on_side side p (take k xs) ++ cond b (t ∷ []) []) (sym on)
+    ∙ sym (chosen_next side p xs k t h at)
+
+pub copies_same : (side : Side) (p : Label) (xs : Attributes) (k : ℕ) (t : Label × ColumnValue) (old : Attributes) → k < length xs → t ≡ get_or xs k t → is_on side t.0 p ≡ false → old ≡ on_side side p (take k xs) → old ≡ on_side side p (take (k + 1) xs)
+copies_same side p xs k t old h at off e =
+    e ∙ append_none (on_side side p (take k xs))
+    ∙ ap (λ (b : Bool). on_side side p (take k xs) ++ cond b (t ∷ []) []) (sym off)
+    ∙ sym (chosen_next side p xs k t h at)
 
 abbrev kept : Label → Attributes → Attributes
 kept p attributes = filter (λ t. is_at_or_below t.0 p) attributes
 
-abbrev renamed : Label → Label → Label × ColumnValue → Label × ColumnValue
-renamed p q t = (moved p q t.0, t.1)
-
-pub moved_more : (p q : Label) (v : VectorValue) (k : ℕ) (old now : Attributes) → k < length v.attributes → is_at_or_below (path_at v k) p ≡ true → now ≡ old ++ (moved p q (path_at v k), column_at v k) ∷ [] → old ≡ moved_columns p q (take k v.attributes) → now ≡ moved_columns p q (take (k + 1) v.attributes)
-moved_more p q v k old now h on m e =
-    let here : kept p (take (k + 1) v.attributes) ≡ kept p (take k v.attributes) ++ get_or v.attributes k no_attribute ∷ [] =
-    filter_more (λ (t : Label × ColumnValue). is_at_or_below t.0 p) v.attributes k no_attribute h ∙ ap (λ (b : Bool). kept p (take k v.attributes) ++ cond b (get_or v.attributes k no_attribute ∷ []) []) on in
-    m ∙ ap (λ (l : Attributes). l ++ (moved p q (path_at v k), column_at v k) ∷ []) e
-    ∙ sym (map-append (renamed p q) (kept p (take k v.attributes)) (get_or v.attributes k no_attribute ∷ []))
-    ∙ ap (map (renamed p q)) (sym here)
-
-pub moved_same : (p q : Label) (v : VectorValue) (k : ℕ) (old : Attributes) → k < length v.attributes → is_at_or_below (path_at v k) p ≡ false → old ≡ moved_columns p q (take k v.attributes) → old ≡ moved_columns p q (take (k + 1) v.attributes)
-moved_same p q v k old h off e =
-    let here : kept p (take k v.attributes) ≡ kept p (take (k + 1) v.attributes) =
-    append_none (kept p (take k v.attributes)) ∙ ap (λ (b : Bool). kept p (take k v.attributes) ++ cond b (get_or v.attributes k no_attribute ∷ []) []) (sym off)
-    ∙ sym (filter_more (λ (t : Label × ColumnValue). is_at_or_below t.0 p) v.attributes k no_attribute h) in
-    e ∙ ap (map (renamed p q)) here
-
--- ---- the first slots
-pub resized_take : (n : ℕ) (xs : List Slot) → n ≤ length xs → take n xs ≡ resized n xs
-resized_take n xs h = fill_by_all (λ i. get_or xs i None) (take n xs) n None (omega (arith, length-take n xs)) (λ k l. get_or-take n xs k None l)
-
--- ---- paths that are not too deep
+-- ---- attributes that are moved one by one
 or_first : (a b : Bool) → (a || b) ≡ false → a ≡ false
 or_first true b e = absurd cc
 or_first false b e = refl
@@ -88,16 +72,9 @@ or_second : (a b : Bool) → (a || b) ≡ false → b ≡ false
 or_second true b e = absurd cc
 or_second false b e = e
 
-pub shallow_here : (p q : Label) (attributes : Attributes) (k : ℕ) → list_any is_deep (paths_of (moved_columns p q attributes)) ≡ false → k < length attributes → is_at_or_below (get_or attributes k no_attribute).0 p ≡ true → is_deep (moved p q (get_or attributes k no_attribute).0) ≡ false
-shallow_here p q [] k e h on = absurd (omega arith)
-shallow_here p q (a ∷ attributes) zero e h on =
-    let here : moved_columns p q (a ∷ attributes) ≡ (moved p q a.0, a.1) ∷ moved_columns p q attributes = ap (λ (b : Bool). map (renamed p q) (if b then a ∷ kept p attributes else kept p attributes)) on in
-    or_first (is_deep (moved p q a.0)) (list_any is_deep (paths_of (moved_columns p q attributes))) (ap (λ (l : Attributes). list_any is_deep (paths_of l)) (sym here) ∙ e)
-shallow_here p q (a ∷ attributes) (suc k) e h on = by (is_at_or_below a.0 p) e (λ t. shallow_here p q attributes k t (omega arith) on)
-  where
-    by : (b : Bool) → list_any is_deep (paths_of (map (renamed p q) (if b then a ∷ kept p attributes else kept p attributes))) ≡ false → (list_any is_deep (paths_of (moved_columns p q attributes)) ≡ false → is_deep (moved p q (get_or attributes k no_attribute).0) ≡ false) → is_deep (moved p q (get_or attributes k no_attribute).0) ≡ false
-    by true t rest = rest (or_second (is_deep (moved p q a.0)) (list_any is_deep (paths_of (moved_columns p q attributes))) t)
-    by false t rest = rest t
+-- ---- the first slots
+pub resized_take : (n : ℕ) (xs : List Slot) → n ≤ length xs → take n xs ≡ resized n xs
+resized_take n xs h = fill_by_all (λ i. get_or xs i None) (take n xs) n None (omega (arith, length-take n xs)) (λ k l. get_or-take n xs k None l)
 
 pub paths_pushed : (old now : Attributes) (p : Label) (c : ColumnValue) → now ≡ old ++ (p, c) ∷ [] → IsPath p → All IsPath (paths_of old) → All IsPath (paths_of now)
 paths_pushed old now p c e h each = rw e (pushed old each)
@@ -106,12 +83,51 @@ paths_pushed old now p c e h each = rw e (pushed old each)
     pushed [] k = All-cons IsPath p [] h (All-nil IsPath)
     pushed (a ∷ l) k = All-cons IsPath a.0 (paths_of (l ++ (p, c) ∷ [])) (All-head IsPath a.0 (paths_of l) k) (pushed l (All-tail IsPath a.0 (paths_of l) k))
 
+-- those that were moved, and those that are left
+pub record Moving (p q : Label) (whole now left : Attributes) : Type 0 where
+  pub so_far : now ++ map (under p q) left ≡ map (under p q) whole
+  pub each : All (λ t. is_at_or_below t.0 p ≡ true) left
+  pub shallow : list_any is_deep (paths_of (map (under p q) left)) ≡ false
+  pub paths : All IsPath (paths_of now)
+  pub ends : 0 < length now → IsPath p × IsPath q
+
+pub moving_start : (p q : Label) (whole now left : Attributes) → now ≡ [] → left ≡ whole → All (λ t. is_at_or_below t.0 p ≡ true) whole → list_any is_deep (paths_of (map (under p q) whole)) ≡ false → Moving p q whole now left
+moving_start p q whole now left e f below shallow = rw (e, f) (record {
+  so_far = refl;
+  each = below;
+  shallow = shallow;
+  paths = All-nil IsPath;
+  ends = λ h. absurd (omega arith);
+})
+
+pub moving_below : (p q : Label) (whole now left rest : Attributes) (x : Label) (c : ColumnValue) → left ≡ (x, c) ∷ rest → Moving p q whole now left → is_at_or_below x p ≡ true
+moving_below p q whole now left rest x c e m = All-head (λ t. is_at_or_below t.0 p ≡ true) (x, c) rest (rw e at m.each)
+
+pub moving_shallow : (p q : Label) (whole now left rest : Attributes) (x : Label) (c : ColumnValue) → left ≡ (x, c) ∷ rest → Moving p q whole now left → is_deep (moved p q x) ≡ false
+moving_shallow p q whole now left rest x c e m = or_first (is_deep (moved p q x)) (list_any is_deep (paths_of (map (under p q) rest))) (rw e at m.shallow)
+
+pub moving_on : (p q : Label) (whole now more left rest : Attributes) (x : Label) (c : ColumnValue) → left ≡ (x, c) ∷ rest → more ≡ now ++ (moved p q x, c) ∷ [] → IsPath (moved p q x) → IsPath p → IsPath q → Moving p q whole now left → Moving p q whole more rest
+moving_on p q whole now more left rest x c e m hx hp hq g = record {
+  so_far = ap (λ (l : Attributes). l ++ map (under p q) rest) m ∙ append_assoc now ((moved p q x, c) ∷ []) (map (under p q) rest) ∙ ap (λ (l : Attributes). now ++ map (under p q) l) (sym e) ∙ g.so_far;
+  each = All-tail (λ t. is_at_or_below t.0 p ≡ true) (x, c) rest (rw e at g.each);
+  shallow = or_second (is_deep (moved p q x)) (list_any is_deep (paths_of (map (under p q) rest))) (rw e at g.shallow);
+  paths = paths_pushed now more (moved p q x) c m hx g.paths;
+  ends = λ h. (hp, hq);
+}
+
+append_empty : (xs : Attributes) → xs ++ [] ≡ xs
+append_empty [] = refl
+append_empty (x ∷ xs) = ap (λ (l : Attributes). x ∷ l) (append_empty xs)
+
+pub moving_end : (p q : Label) (whole now left : Attributes) → left ≡ [] → Moving p q whole now left → now ≡ map (under p q) whole
+moving_end p q whole now left e g = sym (append_empty now) ∙ ap (λ (l : Attributes). now ++ map (under p q) l) (sym e) ∙ g.so_far
+
 -- ---- what is seen of them
 pub seen_moved : (p q : Label) (attributes : Attributes) → seen_attributes (moved_columns p q attributes) ≡ map (λ t. (moved p q t.0, t.1)) (below p (seen_attributes attributes))
 seen_moved p q [] = refl
 seen_moved p q (a ∷ attributes) = by (is_at_or_below a.0 p) (seen_moved p q attributes)
   where
-    by : (b : Bool) → seen_attributes (moved_columns p q attributes) ≡ map (λ t. (moved p q t.0, t.1)) (below p (seen_attributes attributes)) → seen_attributes (map (renamed p q) (if b then a ∷ kept p attributes else kept p attributes)) ≡ map (λ t. (moved p q t.0, t.1)) (if b then (a.0, a.1.slots) ∷ below p (seen_attributes attributes) else below p (seen_attributes attributes))
+    by : (b : Bool) → seen_attributes (moved_columns p q attributes) ≡ map (λ t. (moved p q t.0, t.1)) (below p (seen_attributes attributes)) → seen_attributes (map (under p q) (if b then a ∷ kept p attributes else kept p attributes)) ≡ map (λ t. (moved p q t.0, t.1)) (if b then (a.0, a.1.slots) ∷ below p (seen_attributes attributes) else below p (seen_attributes attributes))
     by true e = ap (λ (l : List Attribute). (moved p q a.0, a.1.slots) ∷ l) e
     by false e = e
 

@@ -21,10 +21,9 @@ use Rattle.programs.specs.Check.{Known, with_result, with_vector, Fault, fault, 
 use Rattle.programs.proofs.Marks.{has_name-append}
 use Rattle.programs.proofs.ShapeLaws.{all_short}
 use Rattle.voodoo_ops.specs.Meaning.{effect_by, effect, after_effect, step}
-use Rattle.voodoo_ops.specs.Fits.{Fits, CanShow, CanShowAll, Runnable}
+use Rattle.voodoo_ops.specs.Fits.{Fits, Runnable}
 use Rattle.voodoo_ops.proofs.Agreeing.{Agree, made_same, tests_same}
 use Rattle.voodoo_ops.proofs.Outlining.{outline_made, outlines-put}
-use Rattle.voodoo_ops.proofs.Fitting.{clear_of}
 
 abbrev pub AllShort : List Outline → Type 0
 AllShort shape = (k : ℕ) (d : Outline) → k < length shape → (get_or shape k d).len ≤ 2 ^ 22
@@ -39,11 +38,11 @@ pub record Ready (store env : Env) (rest : List Statement) : Type 0 where
 
 -- ---- one statement of a check that passes
 
-passed : (T : Shapes) (rest : List Statement) (known next after : Known) (o : Option ProgramKind) → then_check (after_fault known next o) (check_from T rest) ≡ Ok after → (o ≡ None) × (check_from T rest next ≡ Ok after)
+pub passed : (T : Shapes) (rest : List Statement) (known next after : Known) (o : Option ProgramKind) → then_check (after_fault known next o) (check_from T rest) ≡ Ok after → (o ≡ None) × (check_from T rest next ≡ Ok after)
 passed T rest known next after None e = (refl, e)
 passed T rest known next after (Some kind) e = absurd cc
 
-front_clear : (l : List (Bool × ProgramKind)) (t : Bool × ProgramKind) → first_fault (l ++ t ∷ []) ≡ None → first_fault l ≡ None
+pub front_clear : (l : List (Bool × ProgramKind)) (t : Bool × ProgramKind) → first_fault (l ++ t ∷ []) ≡ None → first_fault l ≡ None
 front_clear [] t e = refl
 front_clear (u ∷ l) t e = by u.0 e (front_clear l t)
   where
@@ -249,66 +248,3 @@ ready_start store program r = by (nat_lt 65536 (length program)) r.passes
           small = λ k d h. all_short 1 c.0.shape (ap (limit_from 1) c.2 ∙ r.small) k d h;
           agree = λ m h. refl;
         }
-
--- ---- results
-
-some_put : (env : Env) (n m : Label) (v : Vector) → is_some (env m) ≡ true → is_some (put env n v m) ≡ true
-some_put env n m v h = by (bytes_eq n m)
-  where
-    by : (b : Bool) → is_some (if b then Some v else env m) ≡ true
-    by true = refl
-    by false = h
-
-show_put : (env : Env) (n : Label) (v : Vector) (op : Family) → CanShow env op → CanShow (put env n v) op
-show_put env n v (Persist a) h = some_put env n a v h
-show_put env n v _ h = tt
-
-shows_put : (env : Env) (n : Label) (v : Vector) (l : List Statement) → CanShowAll env l → CanShowAll (put env n v) l
-shows_put env n v [] h = tt
-shows_put env n v (s ∷ l) h = (show_put env n v (family s.op) h.0, shows_put env n v l h.1)
-
-shows_after : (env now : Env) (n : Label) (o : Option (Result Vector Over)) (l : List Statement) → after_effect env n o ≡ Ok now → CanShowAll env l → CanShowAll now l
-shows_after env now n None l e h = let same : env ≡ now = cc in subst (λ (k : Env). CanShowAll k l) same h
-shows_after env now n (Some (Err x)) l e h = absurd cc
-shows_after env now n (Some (Ok v)) l e h = let same : put env n v ≡ now = cc in subst (λ (k : Env). CanShowAll k l) same (shows_put env n v l h)
-
-shows_end : (env : Env) (l : List Statement) (s : Statement) → CanShowAll env l → CanShow env (family s.op) → CanShowAll env (l ++ s ∷ [])
-shows_end env [] s h k = (k, tt)
-shows_end env (t ∷ l) s h k = (h.0, shows_end env l s h.1 k)
-
--- the vector that a Persist names is there when it is met
-some_shape : (o : Option Vector) → is_none (option_map outline_of o) ≡ false → is_some o ≡ true
-some_shape None e = absurd cc
-some_shape (Some v) e = refl
-
-can_show : (store env : Env) (op : Family) → Fits (outlines store) (outlines env) op → CanShow env op
-can_show store env (Persist a) f = some_shape (env a) (or_left (is_none (outlines env a)) false (clear_of (outlines store) (outlines env) (Persist a) f.sound).names).0
-can_show store env _ f = tt
-
-show_step : (env now : Env) (n : Label) (op : Family) (o : Option (Result Vector Over)) → after_effect env n o ≡ Ok now → CanShow env op → CanShow now op
-show_step env now n op None e h = let same : env ≡ now = cc in subst (λ (k : Env). CanShow k op) same h
-show_step env now n op (Some (Err x)) e h = absurd cc
-show_step env now n op (Some (Ok v)) e h = let same : put env n v ≡ now = cc in subst (λ (k : Env). CanShow k op) same (show_put env n v op h)
-
--- the statements so far and those that are left
-pub record Shown (env : Env) (whole left : List Statement) : Type 0 where
-  pub done : List Statement
-  pub is : whole ≡ done ++ left
-  pub shows : CanShowAll env done
-
-pub shown_start : (env : Env) (whole left : List Statement) → whole ≡ left → Shown env whole left
-shown_start env whole left e = record { done = []; is = e; shows = tt }
-
-pub shown_next : (store env now : Env) (whole left rest : List Statement) (s : Statement) → left ≡ s ∷ rest → Fits (outlines store) (outlines env) (family s.op) → step store env s.name s.op ≡ Ok now → Shown env whole left → Shown now whole rest
-shown_next store env now whole left rest s e f h sh = record {
-  done = sh.done ++ s ∷ [];
-  is = sh.is ∙ ap (λ (l : List Statement). sh.done ++ l) e ∙ sym (append_assoc sh.done (s ∷ []) rest);
-  shows = shows_end now sh.done s (shows_after env now s.name (effect store env s.op) sh.done h sh.shows) (show_step env now s.name (family s.op) (effect store env s.op) h (can_show store env (family s.op) f));
-}
-
-append_empty : (xs : List Statement) → xs ++ [] ≡ xs
-append_empty [] = refl
-append_empty (x ∷ xs) = ap (λ (l : List Statement). x ∷ l) (append_empty xs)
-
-pub shown_end : (env : Env) (whole left : List Statement) → left ≡ [] → Shown env whole left → CanShowAll env whole
-shown_end env whole left e sh = subst (CanShowAll env) (sym (sh.is ∙ ap (λ (l : List Statement). sh.done ++ l) e ∙ append_empty sh.done)) sh.shows

@@ -10,7 +10,7 @@ use Rattle.std.proofs.lemmas.Option.{get_or_from_slice_get}
 use Rattle.control_vectors.specs.Slots.{Slot}
 use Rattle.key_paths.specs.Substructures.{is_at_or_below}
 use Rattle.struct_vectors.specs.Columns.{ColumnValue}
-use Rattle.struct_vectors.specs.Vectors.{paths_of, columns_of, HaveLength}
+use Rattle.struct_vectors.specs.Vectors.{HaveLength}
 use Rattle.programs.specs.Mentions.{Label}
 use Rattle.programs.specs.Vectors.{Attribute, seen_attributes}
 use Rattle.voodoo_ops.specs.Attributes.{below}
@@ -50,29 +50,14 @@ changes_more p ts k i h =
 pub length_seen : (attributes : List (Label × ColumnValue)) → length (seen_attributes attributes) ≡ length attributes
 length_seen attributes = length-map attributes (λ a. (a.0, a.1.slots))
 
--- an attribute at a place, by its path and its column
-attribute_at : (attributes : List (Label × ColumnValue)) (k : ℕ) (p : Label) (c : ColumnValue) → k < length attributes → p ≡ get_or (paths_of attributes) k p → c ≡ get_or (columns_of attributes) k c → let t : Attribute = (p, c.slots) in get_or (seen_attributes attributes) k ([], []) ≡ t
-attribute_at [] k p c h ep ec = absurd (omega arith)
-attribute_at (a ∷ attributes) zero p c h ep ec = rw (ep, ec) refl
-attribute_at (a ∷ attributes) (suc k) p c h ep ec = attribute_at attributes k p c (omega arith) ep ec
+-- an attribute at a place
+pub item_long : (n : ℕ) (attributes : List (Label × ColumnValue)) (k : ℕ) (t : Label × ColumnValue) → HaveLength n attributes → k < length attributes → t ≡ get_or attributes k t → length t.1.slots ≡ n
+item_long n attributes k t each h at = ap (λ (u : Label × ColumnValue). length u.1.slots) at ∙ each k t h
 
-path_at : (attributes : List (Label × ColumnValue)) (k : ℕ) (p : Label) → k < length attributes → p ≡ get_or (paths_of attributes) k p → (get_or (seen_attributes attributes) k ([], [])).0 ≡ p
-path_at [] k p h ep = absurd (omega arith)
-path_at (a ∷ attributes) zero p h ep = sym ep
-path_at (a ∷ attributes) (suc k) p h ep = path_at attributes k p (omega arith) ep
-
-pub column_length : (n : ℕ) (attributes : List (Label × ColumnValue)) (k : ℕ) (c : ColumnValue) → HaveLength n attributes → k < length attributes → c ≡ get_or (columns_of attributes) k c → length c.slots ≡ n
-column_length n [] k c each h ec = absurd (omega arith)
-column_length n (a ∷ attributes) zero c each h ec = ap (λ (d : ColumnValue). length d.slots) ec ∙ each 0 a (omega arith)
-column_length n (a ∷ attributes) (suc k) c each h ec = column_length n attributes k c (λ i d l. each (suc i) d (omega arith)) (omega arith) ec
-
-pub changes_here : (attributes : List (Label × ColumnValue)) (k i : ℕ) (p q : Label) (c : ColumnValue) (old new : Bool) → k < length attributes → q ≡ get_or (paths_of attributes) k q → c ≡ get_or (columns_of attributes) k c → true ≡ is_at_or_below q p → new ≡ (old || differs c.slots i) → new ≡ (old || changes_below p (get_or (seen_attributes attributes) k ([], [])) i)
-changes_here attributes k i p q c old new h eq ec below now =
-    rw (attribute_at attributes k q c h eq ec, ← below) now
-
-pub changes_nowhere : (attributes : List (Label × ColumnValue)) (k i : ℕ) (p q : Label) (old : Bool) → k < length attributes → q ≡ get_or (paths_of attributes) k q → false ≡ is_at_or_below q p → old ≡ (old || changes_below p (get_or (seen_attributes attributes) k ([], [])) i)
-changes_nowhere attributes k i p q old h eq off =
-    rw (path_at attributes k q h eq, ← off) (sym (or_false old))
+pub seen_at : (attributes : List (Label × ColumnValue)) (k : ℕ) (t : Label × ColumnValue) → k < length attributes → t ≡ get_or attributes k t → get_or (seen_attributes attributes) k ([], []) ≡ (t.0, t.1.slots)
+seen_at [] k t h at = absurd (omega arith)
+seen_at (a ∷ attributes) zero t h at = ap (λ (u : Label × ColumnValue). let x : Attribute = (u.0, u.1.slots) in x) (sym at)
+seen_at (a ∷ attributes) (suc k) t h at = seen_at attributes k t (omega arith) at
 
 -- ---- the changes of one column
 slot_is : (xs : List Slot) (i : ℕ) (s : Slot) → slice_get xs i ≡ Some s → get_or xs i None ≡ s
@@ -80,9 +65,6 @@ slot_is xs i s e = get_or_from_slice_get xs i s None e
 
 pub differs_is : (xs : List Slot) (i : ℕ) (s t : Slot) → slice_get xs i ≡ Some s → slice_get xs (i - 1) ≡ Some t → differs xs i ≡ not (slot_eq s t)
 differs_is xs i s t e f = rw (slot_is xs i s e, slot_is xs (i - 1) t f) refl
-
-pub length_paths : (attributes : List (Label × ColumnValue)) → length (paths_of attributes) ≡ length attributes
-length_paths attributes = length-map attributes (λ a. a.0)
 
 -- what one more place makes of the marks
 pub record Marking (old now : List Bool) (xs : List Slot) (i : ℕ) : Type 0 where

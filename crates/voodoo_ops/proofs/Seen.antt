@@ -52,6 +52,15 @@ pub not_found : (p : Label) (v : VectorValue) (w : Vector) → seen v ≡ w → 
 not_found p v w is none h =
     false≢true (ap is_some (ap (option_map (λ (c : ColumnValue). c.slots)) none ∙ sym (lookup-seen p v.attributes)) ∙ ap (λ (u : Vector). is_some (lookup (bytes_eq p) u.attributes)) is ∙ h)
 
+-- by the attributes that are left
+pub column_first : (q p : Label) (c : ColumnValue) (items rest attributes : List (Label × ColumnValue)) → items ≡ (p, c) ∷ rest → bytes_eq q p ≡ true → lookup (bytes_eq q) items ≡ lookup (bytes_eq q) attributes → Some c ≡ lookup (bytes_eq q) attributes
+column_first q p c items rest attributes e on same =
+    sym (ap (λ (b : Bool). if b then Some c else lookup (bytes_eq q) rest) on) ∙ sym (ap (lookup (bytes_eq q)) e) ∙ same
+
+pub none_there : (q : Label) (items attributes : List (Label × ColumnValue)) → length items ≡ 0 → lookup (bytes_eq q) items ≡ lookup (bytes_eq q) attributes → None ≡ lookup (bytes_eq q) attributes
+none_there q [] attributes e same = same
+none_there q (t ∷ items) attributes e same = absurd (omega arith)
+
 -- ---- how many slots are meant
 
 pub cells_long : (n : ℕ) (cells : List Cell) → length cells ≡ n → stops.HaveLength n (all_slots cells)

@@ -1,58 +1,23 @@
 -- The attributes of two vectors as those of one.
-use Rattle.std.proofs.Common.{◌≡◌, ℕ, zero, suc, ◌+◌, ◌<◌, ◌≤◌, min, true, false, List, [], ◌∷◌, ◌++◌, length, drop, get_or, refl, sym, ap, ◌∙◌, arith, append_assoc}
+use Rattle.std.proofs.Common.{◌≡◌, ℕ, ◌<◌, ◌≤◌, min, true, false, List, [], ◌∷◌, ◌++◌, length, get_or, refl, sym, ap, ◌∙◌, arith}
 use Rattle.std.specs.Prelude.{All}
-use Rattle.std.proofs.lemmas.List.{length-take, length-map}
+use Rattle.std.proofs.lemmas.List.{length-take}
 use Rattle.std.proofs.lemmas.List.Elements.{All-nil, All-cons, All-head, All-tail}
 use Rattle.key_paths.specs.Paths.{IsPath}
 use Rattle.key_paths.specs.Substructures.{is_before}
 use Rattle.struct_vectors.specs.Columns.{ColumnValue}
-use Rattle.struct_vectors.specs.Vectors.{VectorValue, vector_of, paths_of, columns_of, IsShaped, HaveLength}
+use Rattle.struct_vectors.specs.Vectors.{VectorValue, vector_of, paths_of, IsShaped, HaveLength}
 use Rattle.programs.specs.Mentions.{Label}
 use Rattle.programs.specs.Vectors.{Attribute, Vector, cut_to, seen, seen_attributes}
 use Rattle.programs.specs.Merges.{merged}
 use Rattle.programs.specs.Outlines.{outline_of}
 use Rattle.programs.specs.Faults.{path_clash}
-use Rattle.programs.proofs.Merging.{merged-map, merged-all, next_first, next_second, rises_merged, rises_ascending}
+use Rattle.programs.proofs.Merging.{merged-map, merged-all, rises_merged, rises_ascending}
 use Rattle.voodoo_ops.specs.Attributes.{comes_before, zipped}
-use Rattle.voodoo_ops.specs.Columns.{earlier, fronts, front_column, no_attribute}
+use Rattle.voodoo_ops.specs.Columns.{Attributes, earlier, fronts, front_column}
+use Rattle.voodoo_ops.specs.Handing.{HandsOn}
 use Rattle.voodoo_ops.proofs.Shapes.{shaped_by}
 use Rattle.voodoo_ops.proofs.Seen.{seen-fronts, paths-fronts}
-
-pub length_fronts : (n : ℕ) (attributes : List (Label × ColumnValue)) → length (fronts n attributes) ≡ length attributes
-length_fronts n attributes = length-map attributes (λ t. (t.0, front_column n t.1))
-
--- the front of an attribute, by its path and its column
-pub front_at : (n : ℕ) (attributes : List (Label × ColumnValue)) (i : ℕ) (p : Label) (c d : ColumnValue) → i < length attributes → p ≡ get_or (paths_of attributes) i p → c ≡ get_or (columns_of attributes) i c → d ≡ front_column n c → let t : Label × ColumnValue = (p, d) in t ≡ get_or (fronts n attributes) i no_attribute
-front_at n [] i p c d h ep ec e = absurd (omega arith)
-front_at n (a ∷ attributes) zero p c d h ep ec e = rw (e, ec, ep) refl
-front_at n (a ∷ attributes) (suc i) p c d h ep ec e = front_at n attributes i p c d (omega arith) ep ec e
-
-pub column_long : (n : ℕ) (attributes : List (Label × ColumnValue)) (i : ℕ) (c : ColumnValue) → HaveLength n attributes → i < length attributes → c ≡ get_or (columns_of attributes) i c → length c.slots ≡ n
-column_long n [] i c each h ec = absurd (omega arith)
-column_long n (a ∷ attributes) zero c each h ec = ap (λ (d : ColumnValue). length d.slots) ec ∙ each 0 a (omega arith)
-column_long n (a ∷ attributes) (suc i) c each h ec = column_long n attributes i c (λ k d l. each (suc k) d (omega arith)) (omega arith) ec
-
-path_front : (n : ℕ) (attributes : List (Label × ColumnValue)) (i : ℕ) (d : Label) → i < length attributes → (get_or (fronts n attributes) i no_attribute).0 ≡ get_or (paths_of attributes) i d
-path_front n [] i d h = absurd (omega arith)
-path_front n (a ∷ attributes) zero d h = refl
-path_front n (a ∷ attributes) (suc i) d h = path_front n attributes i d (omega arith)
-
--- the next attribute
-pub front_second : (n : ℕ) (a b : List (Label × ColumnValue)) (i j : ℕ) (so_far more : List (Label × ColumnValue)) (whole : List (Label × ColumnValue)) → j < length b → (i < length a → is_before (get_or (paths_of b) j []) (get_or (paths_of a) i []) ≡ true) → more ≡ so_far ++ get_or (fronts n b) j no_attribute ∷ [] → so_far ++ merged earlier (drop i (fronts n a)) (drop j (fronts n b)) ≡ whole → more ++ merged earlier (drop i (fronts n a)) (drop (j + 1) (fronts n b)) ≡ whole
-front_second n a b i j so_far more whole h first m e =
-    let before = λ (k : i < length (fronts n a)). ap (λ (p : Label). is_before p (get_or (fronts n a) i no_attribute).0) (path_front n b j [] h) ∙ ap (is_before (get_or (paths_of b) j [])) (path_front n a i [] (omega (arith, length_fronts n a, k))) ∙ first (omega (arith, length_fronts n a, k)) in
-    let next = next_second earlier (fronts n a) (fronts n b) i j no_attribute (omega (arith, length_fronts n b)) before in
-    ap (λ (l : List (Label × ColumnValue)). l ++ merged earlier (drop i (fronts n a)) (drop (j + 1) (fronts n b))) m
-    ∙ append_assoc so_far (get_or (fronts n b) j no_attribute ∷ []) (merged earlier (drop i (fronts n a)) (drop (j + 1) (fronts n b)))
-    ∙ ap (λ (l : List (Label × ColumnValue)). so_far ++ l) (sym next) ∙ e
-
-pub front_first : (n : ℕ) (a b : List (Label × ColumnValue)) (i j : ℕ) (so_far more : List (Label × ColumnValue)) (whole : List (Label × ColumnValue)) → i < length a → (j < length b → is_before (get_or (paths_of b) j []) (get_or (paths_of a) i []) ≡ false) → more ≡ so_far ++ get_or (fronts n a) i no_attribute ∷ [] → so_far ++ merged earlier (drop i (fronts n a)) (drop j (fronts n b)) ≡ whole → more ++ merged earlier (drop (i + 1) (fronts n a)) (drop j (fronts n b)) ≡ whole
-front_first n a b i j so_far more whole h second m e =
-    let before = λ (k : j < length (fronts n b)). ap (λ (p : Label). is_before p (get_or (fronts n a) i no_attribute).0) (path_front n b j [] (omega (arith, length_fronts n b, k))) ∙ ap (is_before (get_or (paths_of b) j [])) (path_front n a i [] h) ∙ second (omega (arith, length_fronts n b, k)) in
-    let next = next_first earlier (fronts n a) (fronts n b) i j no_attribute (omega (arith, length_fronts n a)) before in
-    ap (λ (l : List (Label × ColumnValue)). l ++ merged earlier (drop (i + 1) (fronts n a)) (drop j (fronts n b))) m
-    ∙ append_assoc so_far (get_or (fronts n a) i no_attribute ∷ []) (merged earlier (drop (i + 1) (fronts n a)) (drop j (fronts n b)))
-    ∙ ap (λ (l : List (Label × ColumnValue)). so_far ++ l) (sym next) ∙ e
 
 -- ---- the vector of both
 abbrev pub both : ℕ → VectorValue → VectorValue → List (Label × ColumnValue)
@@ -87,3 +52,22 @@ both_shaped n a b e sa sb clear =
     (rw is paths)
     (rw is rises)
     (ap (λ (v : Vector). path_clash (outline_of v)) (seen-both n a b e) ∙ clear)
+
+-- ---- of two vectors that hand their fronts on
+hands_both : (n : ℕ) (a b : Vector) (xs ys items : Attributes) (f : HandsOn a (fronts n) xs) (g : HandsOn b (fronts n) ys) → items ≡ merged earlier xs ys → items ≡ both n f.from g.from
+hands_both n a b xs ys items f g is = is ∙ ap (λ (l : Attributes). merged earlier l ys) f.is ∙ ap (merged earlier (fronts n f.from.attributes)) g.is
+
+shorter : (n : ℕ) (a b : Vector) (v w : VectorValue) → n ≡ min a.len b.len → seen v ≡ a → seen w ≡ b → n ≡ min v.length w.length
+shorter n a b v w e h k = e ∙ ap (λ (u : Vector). min u.len b.len) (sym h) ∙ ap (λ (u : Vector). min v.length u.len) (sym k)
+
+pub hands_seen : (n : ℕ) (a b : Vector) (xs ys items : Attributes) → HandsOn a (fronts n) xs → HandsOn b (fronts n) ys → n ≡ min a.len b.len → items ≡ merged earlier xs ys → seen (vector_of n items) ≡ zipped a b
+hands_seen n a b xs ys items f g e is =
+    ap (λ (l : Attributes). seen (vector_of n l)) (hands_both n a b xs ys items f g is)
+    ∙ seen-both n f.from g.from (shorter n a b f.from g.from e f.slots g.slots)
+    ∙ ap (λ (u : Vector). zipped u (seen g.from)) f.slots ∙ ap (zipped a) g.slots
+
+pub hands_shaped : (n : ℕ) (a b : Vector) (xs ys items : Attributes) → HandsOn a (fronts n) xs → HandsOn b (fronts n) ys → n ≡ min a.len b.len → items ≡ merged earlier xs ys → path_clash (outline_of (zipped a b)) ≡ false → IsShaped (vector_of n items)
+hands_shaped n a b xs ys items f g e is clear =
+    rw (hands_both n a b xs ys items f g is)
+    (both_shaped n f.from g.from (shorter n a b f.from g.from e f.slots g.slots) f.shaped g.shaped
+    (ap (λ (u : Vector). path_clash (outline_of (zipped u (seen g.from)))) f.slots ∙ ap (λ (u : Vector). path_clash (outline_of (zipped a u))) g.slots ∙ clear))

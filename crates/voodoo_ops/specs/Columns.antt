@@ -1,8 +1,7 @@
 -- Attributes of a vector with their columns, however each is kept.
-use Rattle.std.specs.Prelude.{ℕ, Bool, not, List, [], map, filter, take, slice_index_or}
+use Rattle.std.specs.Prelude.{ℕ, Bool, not, List, [], map, filter, take}
 use Rattle.key_paths.specs.Substructures.{is_before, is_at_or_below}
 use Rattle.struct_vectors.specs.Columns.{ColumnValue, narrow}
-use Rattle.struct_vectors.specs.Vectors.{VectorValue}
 use Rattle.programs.specs.Mentions.{Label}
 use Rattle.programs.specs.Moves.{moved}
 
@@ -14,13 +13,6 @@ no_column = record { slots = []; form = narrow }
 
 abbrev pub no_attribute : Label × ColumnValue
 no_attribute = ([], no_column)
-
--- the path and the column of an attribute, by its place
-abbrev pub path_at : VectorValue → ℕ → Label
-path_at v k = (slice_index_or v.attributes k no_attribute).0
-
-abbrev pub column_at : VectorValue → ℕ → ColumnValue
-column_at v k = (slice_index_or v.attributes k no_attribute).1
 
 abbrev pub earlier : Label × ColumnValue → Label × ColumnValue → Bool
 earlier t u = is_before t.0 u.0

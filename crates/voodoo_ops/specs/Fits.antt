@@ -1,6 +1,6 @@
 -- Operators that may be run: none of their tests fails, and what they make has at most 2^22 places.
-use Rattle.std.specs.Prelude.{◌≡◌, ◌≤◌, ◌^◌, true, is_some, List, [], ◌∷◌, None, Ok}
-use Rattle.programs.specs.Families.{Family, family, Persist}
+use Rattle.std.specs.Prelude.{◌≡◌, ◌≤◌, ◌^◌, List, None, Ok}
+use Rattle.programs.specs.Families.{Family}
 use Rattle.programs.specs.declared.op.Statement.{Statement}
 use Rattle.programs.specs.Vectors.{Env}
 use Rattle.programs.specs.Outlines.{Outline, Shapes, outlines}
@@ -11,15 +11,6 @@ use Rattle.programs.specs.Check.{check, limit_of}
 pub record Fits (tables vectors : Shapes) (f : Family) : Type 0 where
   pub sound : first_fault (tests_by tables vectors f) ≡ None
   pub small : (made_by tables vectors f).len ≤ 2 ^ 22
-
--- the vector that a Persist names is there
-abbrev pub CanShow : Env → Family → Type 0
-CanShow env (Persist a) = is_some (env a) ≡ true
-CanShow env _ = Unit {0}
-
-abbrev pub CanShowAll : Env → List Statement → Type 0
-CanShowAll env [] = Unit {0}
-CanShowAll env (s ∷ rest) = CanShow env (family s.op) × CanShowAll env rest
 
 -- a program that passes the check, and makes no vector of more than 2^22 places
 pub record Runnable (store : Env) (program : List Statement) : Type 0 where

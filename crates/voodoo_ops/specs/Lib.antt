@@ -13,3 +13,6 @@ pub mod Stops
 pub mod Laws
 pub mod Sums
 pub mod Sorting
+pub mod Streams
+pub mod Later
+pub mod Handing

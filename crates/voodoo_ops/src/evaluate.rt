@@ -1,30 +1,34 @@
-//! The plain evaluation: the reached statements, operator by operator, in order.
+//! The plain evaluation: the reached statements, operator by operator, in order. A vector is let go behind
+//! the last of them that reads it.
 
-ghost use Rattle.std.specs.Prelude.{◌≡◌, ◌++◌, [], true, false, is_some, length, IfOk, OnOk, Ok};
+ghost use Rattle.std.specs.Prelude.{◌≡◌, ◌++◌, ◌∷◌, [], false, true, is_some, IfOk, OnOk, Ok};
 ghost use Rattle.slot_columns.specs.Stops.{Exact};
+ghost use Rattle.last_readers.specs.Readers.{AreLast};
 ghost use Rattle.programs.specs.Families.{family};
 ghost use Rattle.programs.specs.Mentions.{is_persist};
 ghost use Rattle.programs.specs.Outlines.{outlines};
-ghost use Rattle.programs.specs.Reaching.{Chooses, chosen};
-ghost use Rattle.programs.specs.Vectors.{known, nothing, seen, seen_all, tables};
+ghost use Rattle.programs.specs.Vectors.{known, seen, seen_all, tables};
 ghost use Rattle.voodoo_ops.specs.Envs.{env_in};
-ghost use Rattle.voodoo_ops.specs.Fits.{CanShow, CanShowAll, Fits, Runnable};
-ghost use Rattle.voodoo_ops.specs.Meaning.{effect, meaning, result_of, results, run_from, step};
+ghost use Rattle.voodoo_ops.specs.Fits.{Fits, Runnable};
+ghost use Rattle.voodoo_ops.specs.Later.{Advances, Keeps};
+ghost use Rattle.voodoo_ops.specs.Meaning.{effect, meaning, result_of, step};
 ghost use Rattle.voodoo_ops.specs.Stops.{Makes};
 
 use crate::NoMemory;
 use crate::attributes::{project_made, upsert_made};
 use crate::folds::fold_made;
+use crate::handing::{forget, handed_on};
+use crate::later::{Later, is_reached};
 use crate::made::Made;
 use crate::moves::{gather_made, rank_made, scatter_made};
 use crate::ranges::{cross_made, range_made};
-use crate::reading::vector;
 use crate::results::Results;
 use crate::slotwise::{pair_made, shift_made};
 use crate::sorting::order_made;
 use crate::zip::zip_made;
+use held_vectors::HeldVector;
 use io_edge::Name;
-use programs::reach::reached_marks;
+use last_readers::{LastReaders, last_readers, mentions_of};
 use programs::{Family, Op, Program, Statement};
 use slot_columns::Stop;
 use std::alloc::Global;
@@ -35,64 +39,117 @@ pub(crate) fn evaluate(alloc: Global, p: &Program, store: &Store) -> Result<Resu
     requires { Runnable (tables store.now) p.now }
     ensures { Exact seen_all result (meaning (tables store.now) p.now) }
 {
-    let marks = reached_marks(alloc, p.statements())?;
-    let made = run_chosen(alloc, p.statements(), marks.as_slice(), store)?;
-    let named = named_results(alloc, p.statements(), marks.as_slice(), &made)?;
+    let readers = last_readers(alloc, p.statements())?;
+    let named = run_reached(alloc, p.statements(), &readers, store)?;
     Ok(Results::of(named))
 }
 
-/// The vectors that the marked statements make, by name, in order.
-fn run_chosen(
+/// The results that the reached statements name, in order.
+fn run_reached(
     alloc: Global,
     statements: &[Statement],
-    marks: &[bool],
+    readers: &LastReaders,
     store: &Store,
-) -> Result<Made, Stop>
+) -> Result<Vec<(Name, StructVector)>, Stop>
     requires runnable { Runnable (tables store.now) statements.now }
-    requires marked { Chooses marks.now statements.now }
-    ensures made { Exact env_in result (run_from (tables store.now) (chosen marks.now statements.now) nothing) }
-    ensures shows { IfOk result (λ m. CanShowAll (env_in m) (chosen marks.now statements.now)) }
+    requires last { AreLast readers.now statements.now }
+    ensures { Exact (λ named. seen_all named.items) result (meaning (tables store.now) statements.now) }
 {
     let mut made = Made::nothing(alloc);
+    let mut named = Vec::new(alloc);
     for i in 0..statements.len() {
-        if marks[i] {
-            made = run_one(alloc, store, made, &statements[i])?;
+        let later = Later {
+            readers,
+            from: i + 1,
+        };
+        let statement = &statements[i];
+        if is_reached(statement, later) {
+            run_one(alloc, store, &mut made, &mut named, statement, later)?;
         }
     }
-    Ok(made)
+    Ok(named)
 }
 
-/// Adds the vector that a statement makes, if it makes one.
-fn run_one(alloc: Global, store: &Store, made: Made, s: &Statement) -> Result<Made, Stop>
-    requires { Fits (outlines (tables store.now)) (outlines (env_in made)) (family s.now.op) }
-    ensures { Exact env_in result (step (tables store.now) (env_in made) s.now.name s.now.op) }
+/// Adds the vector that a statement makes, or the result that it names.
+fn run_one(
+    alloc: Global,
+    store: &Store,
+    made: &mut Made,
+    named: &mut Vec<(Name, StructVector)>,
+    s: &Statement,
+    later: Later,
+) -> Result<(), Stop>
+    requires { Fits (outlines (tables store.now)) (outlines (env_in made.old)) (family s.now.op) }
+    ensures step { Advances later.entry result (step (tables store.now) (env_in made.old) s.now.name s.now.op) (env_in made.new) }
+    ensures named { OnOk result (seen_all named.new.items ≡ seen_all named.old.items ++ result_of (env_in made.old) s.now.name (family s.now.op) []) }
 {
-    if s.op.persists() {
-        return Ok(made);
+    if let Op::Persist { a } = &s.op {
+        let v = handed_on(alloc, made, a, later)?;
+        name_result(alloc, named, &s.name, v)?;
+        return Ok(());
     }
-    let v = make(alloc, store, &made, &s.op)?;
-    Ok(made.with(alloc, &s.name, v)?)
+    add_vector(alloc, store, made, s, later)
+}
+
+/// Adds a result.
+fn name_result(
+    alloc: Global,
+    named: &mut Vec<(Name, StructVector)>,
+    name: &Name,
+    v: HeldVector,
+) -> Result<(), NoMemory>
+    ensures { OnOk result (seen_all named.new.items ≡ seen_all named.old.items ++ (name.now, seen v) ∷ []) }
+{
+    let name = name.copied(alloc)?;
+    let v = v.into_vector(alloc)?;
+    named.push((name, v))?;
+    Ok(())
+}
+
+/// Adds the vector that a statement makes.
+fn add_vector(
+    alloc: Global,
+    store: &Store,
+    made: &mut Made,
+    s: &Statement,
+    later: Later,
+) -> Result<(), Stop>
+    requires fits { Fits (outlines (tables store.now)) (outlines (env_in made.old)) (family s.now.op) }
+    requires makes { is_persist s.now.op ≡ false }
+    ensures { Advances later.entry result (step (tables store.now) (env_in made.old) s.now.name s.now.op) (env_in made.new) }
+{
+    let v = make(alloc, store, made, &s.op, later)?;
+    forget(made, mentions_of(&s.op), later);
+    made.put(alloc, &s.name, v)?;
+    Ok(())
 }
 
 /// The vector that an operator makes of the vectors by name.
-fn make(alloc: Global, store: &Store, made: &Made, op: &Op) -> Result<StructVector, Stop>
-    requires fits { Fits (outlines (tables store.now)) (outlines (env_in made.now)) (family op.now) }
+fn make(
+    alloc: Global,
+    store: &Store,
+    made: &mut Made,
+    op: &Op,
+    later: Later,
+) -> Result<HeldVector, Stop>
+    requires fits { Fits (outlines (tables store.now)) (outlines (env_in made.old)) (family op.now) }
     requires makes { is_persist op.now ≡ false }
-    ensures { Makes result (effect (tables store.now) (env_in made.now) op.now) }
+    ensures made { Makes result (effect (tables store.now) (env_in made.old) op.now) }
+    ensures kept { OnOk result (Keeps later.entry (env_in made.old) (env_in made.new)) }
 {
     match op.family() {
         Family::Load { table } => load_made(alloc, store, table),
         Family::Persist { .. } => unreachable!(),
         Family::Range { size, out, control } => range_made(alloc, made, size, out, control),
         Family::Cross { a, p, b, q } => cross_made(alloc, made, a, p, b, q),
-        Family::Zip { a, b } => zip_made(alloc, made, a, b),
-        Family::Project { a, p, q } => project_made(alloc, made, a, p, q),
-        Family::Upsert { a, p, b, q } => upsert_made(alloc, made, a, p, b, q),
+        Family::Zip { a, b } => zip_made(alloc, made, a, b, later),
+        Family::Project { a, p, q } => project_made(alloc, made, a, p, q, later),
+        Family::Upsert { a, p, b, q } => upsert_made(alloc, made, a, p, b, q, later),
         Family::Gather { a, b, pos } => gather_made(alloc, made, a, b, pos),
         Family::Scatter { a, size, b, pos } => scatter_made(alloc, made, a, size, b, pos),
         Family::Rank(kind, args) => rank_made(alloc, made, kind, args),
-        Family::Materialize { a } => copy_made(alloc, made, a),
-        Family::Break { a } => copy_made(alloc, made, a),
+        Family::Materialize { a } => copy_made(alloc, made, a, later),
+        Family::Break { a } => copy_made(alloc, made, a, later),
         Family::Fold(kind, args) => fold_made(alloc, made, kind, args),
         Family::Order { a, mark, out, keys } => order_made(alloc, made, a, mark, out, keys),
         Family::Pair(kind, args) => pair_made(alloc, made, kind, args),
@@ -101,57 +158,21 @@ fn make(alloc: Global, store: &Store, made: &Made, op: &Op) -> Result<StructVect
 }
 
 /// A copy of a table.
-fn load_made(alloc: Global, store: &Store, table: &Name) -> Result<StructVector, Stop>
+fn load_made(alloc: Global, store: &Store, table: &Name) -> Result<HeldVector, Stop>
     requires { is_some (tables store.now table.now) ≡ true }
     ensures { Exact seen result (Ok (known (tables store.now table.now))) }
 {
     match store.table(table) {
-        Some(v) => Ok(v.copied(alloc)?),
+        Some(v) => Ok(HeldVector::of_table(alloc, v)?),
         None => unreachable!(),
     }
 }
 
-/// A copy of the vector of a name.
-fn copy_made(alloc: Global, made: &Made, a: &Name) -> Result<StructVector, Stop>
-    requires { is_some ((env_in made.now) a.now) ≡ true }
-    ensures { Exact seen result (Ok (known ((env_in made.now) a.now))) }
+/// The vector of a name again.
+fn copy_made(alloc: Global, made: &mut Made, a: &Name, later: Later) -> Result<HeldVector, Stop>
+    requires { is_some ((env_in made.old) a.now) ≡ true }
+    ensures made { Exact seen result (Ok (known ((env_in made.old) a.now))) }
+    ensures kept { OnOk result (Keeps later.entry (env_in made.old) (env_in made.new)) }
 {
-    Ok(vector(made, a).copied(alloc)?)
-}
-
-/// The results that the marked statements name, in order.
-fn named_results(
-    alloc: Global,
-    statements: &[Statement],
-    marks: &[bool],
-    made: &Made,
-) -> Result<Vec<(Name, StructVector)>, NoMemory>
-    requires each { length marks.now ≡ length statements.now }
-    requires there { CanShowAll (env_in made.now) (chosen marks.now statements.now) }
-    ensures { IfOk result (λ v. seen_all v.items ≡ results (env_in made.now) (chosen marks.now statements.now)) }
-{
-    let mut named = Vec::new(alloc);
-    for i in 0..statements.len() {
-        if marks[i] {
-            name_result(alloc, made, &mut named, &statements[i])?;
-        }
-    }
-    Ok(named)
-}
-
-/// Adds the result that a statement names, if it names one.
-fn name_result(
-    alloc: Global,
-    made: &Made,
-    named: &mut Vec<(Name, StructVector)>,
-    s: &Statement,
-) -> Result<(), NoMemory>
-    requires { CanShow (env_in made.now) (family s.now.op) }
-    ensures { OnOk result (seen_all named.new.items ≡ seen_all named.old.items ++ result_of (env_in made.now) s.now.name (family s.now.op) []) }
-{
-    if let Op::Persist { a } = &s.op {
-        let v = vector(made, a).copied(alloc)?;
-        named.push((s.name.copied(alloc)?, v))?;
-    }
-    Ok(())
+    Ok(handed_on(alloc, made, a, later)?)
 }

@@ -12,11 +12,11 @@ use crate::reading::{attribute, vector};
 use crate::run_marks::marks_of;
 use crate::single::named_if_made;
 use control_vectors::FoldKind;
+use held_vectors::HeldVector;
 use programs::{FoldArgs, FoldOperator};
 use slot_columns::Stop;
 use slot_folds::{fold_runs, scan_runs, select_runs};
 use std::alloc::Global;
-use struct_vectors::StructVector;
 
 /// The vector that a fold makes.
 pub(crate) fn fold_made(
@@ -24,7 +24,7 @@ pub(crate) fn fold_made(
     made: &Made,
     kind: FoldOperator,
     args: &FoldArgs,
-) -> Result<StructVector, Stop>
+) -> Result<HeldVector, Stop>
     requires { CanFold (env_in made.now) args.now }
     ensures { Exact seen result (folded_by kind (known ((env_in made.now) args.now.a)) args.now) }
 {
@@ -43,7 +43,7 @@ fn number_made(
     made: &Made,
     kind: FoldKind,
     args: &FoldArgs,
-) -> Result<StructVector, Stop>
+) -> Result<HeldVector, Stop>
     requires { CanFold (env_in made.now) args.now }
     ensures { Exact seen result (fold kind (known ((env_in made.now) args.now.a)) args.now) }
 {
@@ -57,7 +57,7 @@ fn number_made(
 }
 
 /// The vector that FoldSelect makes.
-fn select_made(alloc: Global, made: &Made, args: &FoldArgs) -> Result<StructVector, Stop>
+fn select_made(alloc: Global, made: &Made, args: &FoldArgs) -> Result<HeldVector, Stop>
     requires { CanFold (env_in made.now) args.now }
     ensures { Exact seen result (Ok (fold_select (known ((env_in made.now) args.now.a)) args.now)) }
 {
@@ -71,7 +71,7 @@ fn select_made(alloc: Global, made: &Made, args: &FoldArgs) -> Result<StructVect
 }
 
 /// The vector that FoldScan makes.
-fn scan_made(alloc: Global, made: &Made, args: &FoldArgs) -> Result<StructVector, Stop>
+fn scan_made(alloc: Global, made: &Made, args: &FoldArgs) -> Result<HeldVector, Stop>
     requires { CanFold (env_in made.now) args.now }
     ensures { Exact seen result (fold_scan (known ((env_in made.now) args.now.a)) args.now) }
 {

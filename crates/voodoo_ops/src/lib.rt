@@ -12,6 +12,8 @@ use std::alloc::AllocError;
 mod attributes;
 mod evaluate;
 mod folds;
+mod handing;
+mod later;
 pub mod laws;
 mod made;
 mod moves;

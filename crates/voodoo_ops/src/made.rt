@@ -1,26 +1,21 @@
 //! The vectors that a run has made, by name.
 
-ghost use Rattle.std.specs.Prelude.{length};
-ghost use Rattle.programs.specs.Indexes.{AreWithin, places_of};
-
 use crate::NoMemory;
+use held_vectors::HeldVector;
 use io_edge::Name;
-use programs::index::Index;
 use std::alloc::Global;
-use struct_vectors::StructVector;
+use std::collections::HashMap;
 
 /// Vectors by name. Contracts see it by `env_in`, a function from a name to the slots of its vector.
 #[derive(Drop)]
 pub struct Made {
-    vectors: Vec<StructVector>,
-    places: Index,
-    ghost within: { AreWithin (length vectors.items) (places_of places) },
+    vectors: HashMap<String, HeldVector>,
 }
 
 impl Made {
-    ghost use Rattle.std.specs.Prelude.{◌≡◌, IfOk};
+    ghost use Rattle.std.specs.Prelude.{◌≡◌, OnOk};
     ghost use Rattle.std.specs.Option.{option_copied, option_map};
-    ghost use Rattle.voodoo_ops.specs.Envs.{env_in};
+    ghost use Rattle.voodoo_ops.specs.Envs.{env_in, without};
     ghost use Rattle.programs.specs.Vectors.{nothing, put, seen};
 
     /// No vectors.
@@ -28,34 +23,31 @@ impl Made {
         ensures { env_in result ≡ nothing }
     {
         Made {
-            vectors: Vec::new(alloc),
-            places: Index::new(alloc),
+            vectors: HashMap::new(alloc),
         }
     }
 
     /// The vector of a name.
-    pub fn vector(&self, name: &Name) -> Option<&StructVector>
+    pub fn vector(&self, name: &Name) -> Option<&HeldVector>
         ensures { option_map seen (option_copied result) ≡ env_in self.now name.now }
     {
-        match self.places.place(name) {
-            Some(place) => Some(&self.vectors[place]),
-            None => None,
-        }
+        self.vectors.get(name.text())
     }
 
-    /// The vectors with one more, which takes the place of an earlier one of its name.
-    pub fn with(self, alloc: Global, name: &Name, v: StructVector) -> Result<Made, NoMemory>
-        ensures { IfOk result (λ m. env_in m ≡ put (env_in self) name.now (seen v)) }
+    /// Adds a vector, which takes the place of an earlier one of its name.
+    pub fn put(&mut self, alloc: Global, name: &Name, v: HeldVector) -> Result<(), NoMemory>
+        ensures { OnOk result (env_in self.new ≡ put (env_in self.old) name.now (seen v)) }
     {
-        let Made {
-            mut vectors,
-            places,
-        } = self;
-        let place = vectors.len();
-        vectors.push(v)?;
-        Ok(Made {
-            vectors,
-            places: places.with(alloc, name, place)?,
-        })
+        let key = String::from_str(alloc, name.text())?;
+        self.vectors.insert(key, v)?;
+        Ok(())
+    }
+
+    /// Takes the vector of a name out.
+    pub fn take(&mut self, name: &Name) -> Option<HeldVector>
+        ensures vector { option_map seen result ≡ env_in self.old name.now }
+        ensures left { env_in self.new ≡ without (env_in self.old) name.now }
+    {
+        self.vectors.remove(name.text())
     }
 }

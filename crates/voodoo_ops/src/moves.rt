@@ -1,10 +1,9 @@
 //! Operators that move slots to other places.
 
-ghost use Rattle.std.specs.Prelude.{◌≡◌, ◌++◌, ◌∷◌, [], ◌<◌, ◌≤◌, ◌^◌, true, is_some, length, IfOk, OnOk, Ok};
+ghost use Rattle.std.specs.Prelude.{◌≡◌, ◌++◌, ◌∷◌, [], ◌≤◌, ◌^◌, true, is_some, length, IfOk, OnOk, Ok};
 ghost use Rattle.struct_vectors.specs.Vectors.{IsShaped};
 ghost use Rattle.slot_columns.specs.Stops.{Exact};
 ghost use Rattle.programs.specs.Vectors.{known, seen, seen_attributes};
-ghost use Rattle.voodoo_ops.specs.Columns.{column_at, path_at};
 ghost use Rattle.voodoo_ops.specs.Envs.{env_in};
 ghost use Rattle.voodoo_ops.specs.Meaning.{size_of};
 ghost use Rattle.voodoo_ops.specs.Moves as spec;
@@ -15,13 +14,14 @@ use crate::NoMemory;
 use crate::made::Made;
 use crate::reading::{attribute, size_in, vector};
 use crate::single::named;
+use held_vectors::HeldVector;
 use io_edge::Name;
 use key_paths::Path;
 use programs::{RankArgs, RankOperator, Size};
 use slot_columns::Stop;
 use slot_moves::{buckets, gather, partitions, writers};
 use std::alloc::Global;
-use struct_vectors::{Column, StructVector};
+use struct_vectors::Column;
 
 /// The vector that Gather makes.
 pub(crate) fn gather_made(
@@ -30,7 +30,7 @@ pub(crate) fn gather_made(
     a: &Name,
     b: &Name,
     pos: &Path,
-) -> Result<StructVector, Stop>
+) -> Result<HeldVector, Stop>
     requires source { is_some ((env_in made.now) a.now) ≡ true }
     requires positions { HasAttribute (env_in made.now) b.now pos.now }
     ensures { Exact seen result (Ok (spec.gather (known ((env_in made.now) a.now)) (known ((env_in made.now) b.now)) pos.now)) }
@@ -47,7 +47,7 @@ pub(crate) fn scatter_made(
     size: &Size,
     b: &Name,
     pos: &Path,
-) -> Result<StructVector, Stop>
+) -> Result<HeldVector, Stop>
     requires source { is_some ((env_in made.now) a.now) ≡ true }
     requires short { size_of (env_in made.now) size.now ≤ 2 ^ 22 }
     requires positions { HasAttribute (env_in made.now) b.now pos.now }
@@ -60,29 +60,28 @@ pub(crate) fn scatter_made(
 }
 
 /// The slots of each attribute at some places.
-fn at_places(alloc: Global, v: &StructVector, places: &Column) -> Result<StructVector, NoMemory>
+fn at_places(alloc: Global, v: &HeldVector, places: &Column) -> Result<HeldVector, NoMemory>
     ensures { IfOk result (λ w. seen w ≡ record {
       len = length places.now.slots;
       attributes = moved_to places.now.slots (seen v.now).attributes;
     }) }
 {
     let attributes = attributes_at(alloc, v, places)?;
-    let w = StructVector::of_ordered(alloc, places.len(), attributes)?;
-    Ok(w)
+    Ok(HeldVector::of_ordered(places.len(), attributes))
 }
 
 /// The attributes at some places.
 fn attributes_at(
     alloc: Global,
-    v: &StructVector,
+    v: &HeldVector,
     places: &Column,
 ) -> Result<Vec<(Path, Column)>, NoMemory>
     ensures moved { IfOk result (λ r. seen_attributes r.items ≡ moved_to places.now.slots (seen_attributes v.now.attributes)) }
     ensures shaped { OnOk result (IsShaped v.now) }
 {
-    let mut attributes = Vec::with_capacity(alloc, v.paths().len())?;
-    for k in 0..v.paths().len() {
-        push_at(alloc, &mut attributes, v, k, places)?;
+    let mut attributes = Vec::with_capacity(alloc, v.attributes().len())?;
+    for attribute in v.attributes() {
+        push_at(alloc, &mut attributes, attribute, places)?;
     }
     Ok(attributes)
 }
@@ -91,16 +90,14 @@ fn attributes_at(
 fn push_at(
     alloc: Global,
     attributes: &mut Vec<(Path, Column)>,
-    v: &StructVector,
-    k: usize,
+    attribute: &(Path, Column),
     places: &Column,
 ) -> Result<(), NoMemory>
-    requires { k < length v.now.attributes }
     ensures { OnOk result (seen_attributes attributes.new.items
-        ≡ seen_attributes attributes.old.items ++ moved_to places.now.slots ((path_at v.now k, (column_at v.now k).slots) ∷ [])) }
+        ≡ seen_attributes attributes.old.items ++ moved_to places.now.slots ((attribute.now.0, attribute.now.1.slots) ∷ [])) }
 {
-    let path = v.paths()[k].copied(alloc)?;
-    let column = gather(alloc, &v.columns()[k], places)?;
+    let path = attribute.0.copied(alloc)?;
+    let column = gather(alloc, &attribute.1, places)?;
     attributes.push((path, column))?;
     Ok(())
 }
@@ -111,7 +108,7 @@ pub(crate) fn rank_made(
     made: &Made,
     kind: RankOperator,
     args: &RankArgs,
-) -> Result<StructVector, Stop>
+) -> Result<HeldVector, Stop>
     requires { CanRank (env_in made.now) args.now }
     ensures { Exact seen result
         (Ok (ranked kind (known ((env_in made.now) args.now.a)) (known ((env_in made.now) args.now.b)) args.now)) }
@@ -123,7 +120,7 @@ pub(crate) fn rank_made(
 }
 
 /// The vector that Bucket makes.
-fn bucket_made(alloc: Global, made: &Made, args: &RankArgs) -> Result<StructVector, Stop>
+fn bucket_made(alloc: Global, made: &Made, args: &RankArgs) -> Result<HeldVector, Stop>
     requires { CanRank (env_in made.now) args.now }
     ensures { Exact seen result
         (Ok (bucket (known ((env_in made.now) args.now.a)) (known ((env_in made.now) args.now.b)) args.now)) }
@@ -134,7 +131,7 @@ fn bucket_made(alloc: Global, made: &Made, args: &RankArgs) -> Result<StructVect
 }
 
 /// The vector that Partition makes.
-fn partition_made(alloc: Global, made: &Made, args: &RankArgs) -> Result<StructVector, Stop>
+fn partition_made(alloc: Global, made: &Made, args: &RankArgs) -> Result<HeldVector, Stop>
     requires { CanRank (env_in made.now) args.now }
     ensures { Exact seen result
         (Ok (partition (known ((env_in made.now) args.now.a)) (known ((env_in made.now) args.now.b)) args.now)) }

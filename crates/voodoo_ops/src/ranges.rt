@@ -15,13 +15,14 @@ use crate::reading::{size_in, vector};
 use crate::single::named;
 use crate::zip::zip;
 use control_vectors::ControlVector;
+use held_vectors::HeldVector;
 use io_edge::Name;
 use key_paths::Path;
 use programs::Size;
 use slot_columns::Stop;
 use slot_moves::{left_column, right_column};
 use std::alloc::Global;
-use struct_vectors::{Column, StructVector};
+use struct_vectors::Column;
 
 /// The vector that Range makes: the values of a control vector, kept as its four numbers.
 pub(crate) fn range_made(
@@ -30,7 +31,7 @@ pub(crate) fn range_made(
     size: &Size,
     out: &Path,
     control: ControlVector,
-) -> Result<StructVector, Stop>
+) -> Result<HeldVector, Stop>
     requires short { size_of (env_in made.now) size.now ≤ 2 ^ 22 }
     requires named { IsNamed out.now }
     ensures { Exact seen result (Ok (ranged (size_of (env_in made.now) size.now) out.now control)) }
@@ -47,7 +48,7 @@ pub(crate) fn cross_made(
     p: &Path,
     b: &Name,
     q: &Path,
-) -> Result<StructVector, Stop>
+) -> Result<HeldVector, Stop>
     requires a { is_some ((env_in made.now) a.now) ≡ true }
     requires b { is_some ((env_in made.now) b.now) ≡ true }
     requires short { (known ((env_in made.now) a.now)).len * (known ((env_in made.now) b.now)).len ≤ 2 ^ 22 }
@@ -60,5 +61,5 @@ pub(crate) fn cross_made(
     let m = vector(made, b).len();
     let left = named(alloc, p, left_column(n, m))?;
     let right = named(alloc, q, right_column(n, m))?;
-    Ok(zip(alloc, &left, &right)?)
+    Ok(zip(alloc, left, right)?)
 }

@@ -8,14 +8,15 @@ ghost use Rattle.voodoo_ops.specs.Meaning.{size_of};
 ghost use Rattle.voodoo_ops.specs.Reading.{HasAttribute, HasOperand, Reads};
 
 use crate::made::Made;
+use held_vectors::HeldVector;
 use io_edge::Name;
 use key_paths::Path;
 use programs::{Operand, Size};
 use slot_wise::Source;
-use struct_vectors::{Column, StructVector};
+use struct_vectors::Column;
 
 /// The vector of a name.
-pub(crate) fn vector<'a>(made: &'a Made, a: &Name) -> &'a StructVector
+pub(crate) fn vector<'a>(made: &'a Made, a: &Name) -> &'a HeldVector
     requires { is_some ((env_in made.now) a.now) ≡ true }
     ensures vector { seen result.now ≡ known ((env_in made.now) a.now) }
     ensures shaped { IsShaped result.now }

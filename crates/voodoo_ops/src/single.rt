@@ -9,17 +9,18 @@ ghost use Rattle.voodoo_ops.specs.Reading.{IsNamed};
 ghost use Rattle.voodoo_ops.specs.Stops.{HaveLength};
 
 use crate::NoMemory;
+use held_vectors::HeldVector;
 use key_paths::Path;
 use slot_columns::Stop;
 use std::alloc::Global;
-use struct_vectors::{Column, StructVector};
+use struct_vectors::Column;
 
 /// The vector of one attribute.
-pub(crate) fn named(alloc: Global, out: &Path, slots: Column) -> Result<StructVector, NoMemory>
+pub(crate) fn named(alloc: Global, out: &Path, slots: Column) -> Result<HeldVector, NoMemory>
     requires { IsNamed out.now }
     ensures { IfOk result (λ v. seen v ≡ column out.now (length slots.slots) slots.slots) }
 {
-    let v = StructVector::of_column(alloc, out.copied(alloc)?, slots)?;
+    let v = HeldVector::of_column(alloc, out.copied(alloc)?, slots)?;
     Ok(v)
 }
 
@@ -28,7 +29,7 @@ pub(crate) fn named_if_made(
     alloc: Global,
     out: &Path,
     slots: Result<Column, Stop>,
-) -> Result<StructVector, Stop>
+) -> Result<HeldVector, Stop>
     requires { IsNamed out.now }
     ensures { (n : ℕ) (meant : Result (List Slot) Over) → Exact (λ c. c.slots) slots meant → HaveLength n meant
         → Exact seen result (column_of out.now n meant) }

@@ -10,12 +10,12 @@ use crate::made::Made;
 use crate::reading::operand;
 use crate::single::named_if_made;
 use control_vectors::PairKind;
+use held_vectors::HeldVector;
 use key_paths::Path;
 use programs::{Operand, PairArgs};
 use slot_columns::Stop;
 use slot_wise::{common_len, pairs, shifts};
 use std::alloc::Global;
-use struct_vectors::StructVector;
 
 /// The vector that a slot-wise operator makes of two operands.
 pub(crate) fn pair_made(
@@ -23,7 +23,7 @@ pub(crate) fn pair_made(
     made: &Made,
     kind: PairKind,
     args: &PairArgs,
-) -> Result<StructVector, Stop>
+) -> Result<HeldVector, Stop>
     requires { CanPair (env_in made.now) args.now }
     ensures { Exact seen result (paired kind (env_in made.now) args.now) }
 {
@@ -39,7 +39,7 @@ pub(crate) fn shift_made(
     x: &Operand,
     by: i32,
     out: &Path,
-) -> Result<StructVector, Stop>
+) -> Result<HeldVector, Stop>
     requires x { HasOperand (env_in made.now) x.now }
     requires named { IsNamed out.now }
     ensures { Exact seen result (shifted (env_in made.now) x.now by out.now) }

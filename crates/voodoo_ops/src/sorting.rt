@@ -13,13 +13,14 @@ use crate::made::Made;
 use crate::reading::attribute;
 use crate::single::named;
 use control_vectors::{Over, Slot};
+use held_vectors::HeldVector;
 use io_edge::Name;
 use key_paths::Path;
 use programs::OrderKeys;
 use slot_columns::{Stop, slots_column};
 use sort_order::{KeySource, OrderRefusal, order};
 use std::alloc::Global;
-use struct_vectors::{Column, StructVector};
+use struct_vectors::Column;
 
 /// A key of an order.
 #[derive(Drop)]
@@ -70,7 +71,7 @@ pub(crate) fn order_made(
     mark: &Path,
     out: &Path,
     keys: &OrderKeys,
-) -> Result<StructVector, Stop>
+) -> Result<HeldVector, Stop>
     requires mark { HasAttribute (env_in made.now) a.now mark.now }
     requires keys { HasKeys (env_in made.now) a.now keys.now }
     requires few { length keys.now ≤ 16 }

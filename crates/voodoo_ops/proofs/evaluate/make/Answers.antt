@@ -14,6 +14,9 @@ zip_made-requires-clause-clear c = (zip_fits (tables c.args.store.now) (env_in c
 pub cross_made-requires-clause-clear : goal.cross_made-requires-clause-clear
 cross_made-requires-clause-clear c = (cross_fits (tables c.args.store.now) (env_in c.args.made.now) c.in-Cross.a.now c.in-Cross.p.now c.in-Cross.b.now c.in-Cross.q.now (fits_as (outlines (tables c.args.store.now)) (outlines (env_in c.args.made.now)) _ _ (ap lent (sym c.in-Cross.is) ∙ c.family.ensures) c.requires.fits)).clear
 
+pub cross_made-requires-clause-short : goal.cross_made-requires-clause-short
+cross_made-requires-clause-short c = (cross_fits (tables c.args.store.now) (env_in c.args.made.now) c.in-Cross.a.now c.in-Cross.p.now c.in-Cross.b.now c.in-Cross.q.now (fits_as (outlines (tables c.args.store.now)) (outlines (env_in c.args.made.now)) _ _ (ap lent (sym c.in-Cross.is) ∙ c.family.ensures) c.requires.fits)).short
+
 pub project_made-requires-clause-clear : goal.project_made-requires-clause-clear
 project_made-requires-clause-clear c = (project_fits (tables c.args.store.now) (env_in c.args.made.now) c.in-Project.a.now c.in-Project.p.now c.in-Project.q.now (fits_as (outlines (tables c.args.store.now)) (outlines (env_in c.args.made.now)) _ _ (ap lent (sym c.in-Project.is) ∙ c.family.ensures) c.requires.fits)).1
 
@@ -50,11 +53,11 @@ pair_made-requires c = pair_fits (tables c.args.store.now) (env_in c.args.made.n
 pub shift_made-requires-clause-x : goal.shift_made-requires-clause-x
 shift_made-requires-clause-x c = (shift_fits (tables c.args.store.now) (env_in c.args.made.now) c.in-BitShift.x.now c.in-BitShift.by c.in-BitShift.out.now (fits_as (outlines (tables c.args.store.now)) (outlines (env_in c.args.made.now)) _ _ (ap lent (sym c.in-BitShift.is) ∙ c.family.ensures) c.requires.fits)).0
 
-pub returns-in-Upsert : goal.returns-in-Upsert
-returns-in-Upsert c = makes c.upsert_made.result _ _ (ap (effect_by (tables c.args.store.now) (env_in c.args.made.now)) (sym c.family.ensures ∙ ap lent c.in-Upsert.is)) c.upsert_made.ensures
+pub returns-in-Upsert-clause-made : goal.returns-in-Upsert-clause-made
+returns-in-Upsert-clause-made c = makes c.upsert_made.result _ _ (ap (effect_by (tables c.args.store.now) (env_in c.args.made.now)) (sym c.family.ensures ∙ ap lent c.in-Upsert.is)) c.upsert_made.ensures.made
 
-pub returns-in-Gather : goal.returns-in-Gather
-returns-in-Gather c = makes c.gather_made.result _ _ (ap (effect_by (tables c.args.store.now) (env_in c.args.made.now)) (sym c.family.ensures ∙ ap lent c.in-Gather.is)) c.gather_made.ensures
+pub returns-in-Gather-clause-made : goal.returns-in-Gather-clause-made
+returns-in-Gather-clause-made c = makes c.gather_made.result _ _ (ap (effect_by (tables c.args.store.now) (env_in c.args.made.now)) (sym c.family.ensures ∙ ap lent c.in-Gather.is)) c.gather_made.ensures
 
-pub returns-in-Scatter : goal.returns-in-Scatter
-returns-in-Scatter c = makes c.scatter_made.result _ _ (ap (effect_by (tables c.args.store.now) (env_in c.args.made.now)) (sym c.family.ensures ∙ ap lent c.in-Scatter.is)) c.scatter_made.ensures
+pub returns-in-Scatter-clause-made : goal.returns-in-Scatter-clause-made
+returns-in-Scatter-clause-made c = makes c.scatter_made.result _ _ (ap (effect_by (tables c.args.store.now) (env_in c.args.made.now)) (sym c.family.ensures ∙ ap lent c.in-Scatter.is)) c.scatter_made.ensures

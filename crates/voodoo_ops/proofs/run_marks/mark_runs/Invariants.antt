@@ -5,9 +5,9 @@ use Rattle.voodoo_ops.specs.Attributes.{below}
 use Rattle.control_vectors.specs.Runs.{differs}
 use Rattle.voodoo_ops.proofs.run_marks.mark_runs.Given as goal
 
-abbrev pub invariant-loop-k : goal.invariant-loop-k
-invariant-loop-k l = record {
+abbrev pub invariant-loop-attribute : goal.invariant-loop-attribute
+invariant-loop-attribute l = record {
   each : length l.marks ≡ l.v.length;
   first : 0 < length l.marks → get_or l.marks 0 false ≡ true;
-  later : (i : ℕ) → 0 < i → i < length l.marks → get_or l.marks i false ≡ list_any (λ t. differs t.1 i) (below l.run (take l.k (seen_attributes l.v.attributes)));
+  later : (i : ℕ) → 0 < i → i < length l.marks → get_or l.marks i false ≡ list_any (λ t. differs t.1 i) (below l.run (take l.attribute-index (seen_attributes l.v.attributes)));
 }

@@ -1,15 +1,27 @@
-use Rattle.std.proofs.Common.{◌≡◌, min, ap, ◌∙◌, arith}
-use Rattle.struct_vectors.specs.Vectors.{vector_of}
-use Rattle.programs.specs.Vectors.{seen}
-use Rattle.voodoo_ops.proofs.Zips.{both_shaped, seen-both}
+use Rattle.std.proofs.Common.{◌≡◌, min, ap, refl, ◌∙◌, arith}
+use Rattle.programs.specs.Vectors.{Vector, seen}
+use Rattle.struct_vectors.specs.Vectors.{VectorValue}
+use Rattle.voodoo_ops.specs.Columns.{Attributes, fronts}
+use Rattle.voodoo_ops.specs.Handing.{HandsOn}
+use Rattle.voodoo_ops.proofs.Zips.{hands_seen, hands_shaped}
 use Rattle.voodoo_ops.proofs.zip.zip.Goals as goal
 
 pub of_ordered-requires : goal.of_ordered-requires
 of_ordered-requires c =
-    let shorter : c.min-len.result ≡ min c.args.a.now.length c.args.b.now.length = omega (arith, c.min-len.ensures, c.len.ensures.len, c.len-2.ensures.len) in
-    rw c.in_ok-attributes.ensures (both_shaped c.min-len.result c.args.a.now c.args.b.now shorter c.len.ensures.shaped c.len-2.ensures.shaped c.requires)
+    let a = c.args.a in
+    let b = c.args.b in
+    let n = c.min-n.result in
+    let shorter : n ≡ min a.length b.length = omega (arith, c.min-n.ensures, c.len.ensures.len, c.len-2.ensures.len) in
+    let f : HandsOn (seen a) (fronts n) c.in_ok-firsts.firsts.items = record { from = a; shaped = c.len.ensures.shaped; slots = refl; is = c.in_ok-firsts.ensures ∙ ap (fronts n) c.into_attributes.ensures.attributes } in
+    let g : HandsOn (seen b) (fronts n) c.in_ok-seconds.seconds.items = record { from = b; shaped = c.len-2.ensures.shaped; slots = refl; is = c.in_ok-seconds.ensures ∙ ap (fronts n) c.into_attributes-2.ensures.attributes } in
+    hands_shaped n (seen a) (seen b) c.in_ok-firsts.firsts.items c.in_ok-seconds.seconds.items c.in_ok-attributes.attributes.items f g shorter c.in_ok-attributes.ensures c.requires
 
 pub returns : goal.returns
 returns c =
-    let shorter : c.min-len.result ≡ min c.args.a.now.length c.args.b.now.length = omega (arith, c.min-len.ensures, c.len.ensures.len, c.len-2.ensures.len) in
-    ap seen (c.in_ok-v.ensures ∙ ap (vector_of c.min-len.result) c.in_ok-attributes.ensures) ∙ seen-both c.min-len.result c.args.a.now c.args.b.now shorter
+    let a = c.args.a in
+    let b = c.args.b in
+    let n = c.min-n.result in
+    let shorter : n ≡ min a.length b.length = omega (arith, c.min-n.ensures, c.len.ensures.len, c.len-2.ensures.len) in
+    let f : HandsOn (seen a) (fronts n) c.in_ok-firsts.firsts.items = record { from = a; shaped = c.len.ensures.shaped; slots = refl; is = c.in_ok-firsts.ensures ∙ ap (fronts n) c.into_attributes.ensures.attributes } in
+    let g : HandsOn (seen b) (fronts n) c.in_ok-seconds.seconds.items = record { from = b; shaped = c.len-2.ensures.shaped; slots = refl; is = c.in_ok-seconds.ensures ∙ ap (fronts n) c.into_attributes-2.ensures.attributes } in
+    ap seen c.of_ordered.ensures ∙ hands_seen n (seen a) (seen b) c.in_ok-firsts.firsts.items c.in_ok-seconds.seconds.items c.in_ok-attributes.attributes.items f g shorter c.in_ok-attributes.ensures

@@ -1,7 +1,0 @@
-use Rattle.voodoo_ops.specs.Envs.{env_in}
-use Rattle.programs.specs.Vectors.{tables}
-use Rattle.voodoo_ops.proofs.Evaluated.{Going}
-use Rattle.voodoo_ops.proofs.evaluate.run_chosen.Given as goal
-
-abbrev pub invariant-loop-i : goal.invariant-loop-i
-invariant-loop-i l = Going (tables l.store) (env_in l.made) l.marks l.statements l.i
