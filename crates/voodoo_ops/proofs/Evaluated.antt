@@ -1,17 +1,16 @@
 -- Statements one by one.
-use Rattle.std.proofs.Common.{◌≡◌, ℕ, ◌+◌, ◌<◌, ◌≤◌, List, [], ◌∷◌, ◌++◌, Bool, true, false, ◌||◌, refl, ap, sym, ◌∙◌, subst, length, drop, get_or, arith, append_assoc, Result, Ok, Err}
-use Rattle.std.proofs.lemmas.List.{drop_more, drop_all, get_or_default}
+use Rattle.std.proofs.Common.{◌≡◌, ℕ, ◌+◌, ◌<◌, ◌≤◌, List, [], ◌∷◌, ◌++◌, Bool, true, false, ◌||◌, refl, ap, sym, ◌∙◌, length, drop, get_or, append_assoc, Result, Ok, Err}
+use Rattle.std.proofs.lemmas.List.{drop_more, drop_all}
 use Rattle.control_vectors.specs.Slots.{over}
 use Rattle.control_vectors.specs.declared.Over.{Over}
 use Rattle.last_readers.specs.Readers.{AreLast, is_read}
 use Rattle.last_readers.specs.declared.last.LastReaders.{LastReaders}
 use Rattle.programs.specs.Families.{family}
-use Rattle.programs.specs.declared.op.Op.TheVariants as op
 use Rattle.programs.specs.declared.op.Statement.{Statement}
-use Rattle.programs.specs.Mentions.{Label, is_persist, has_name}
+use Rattle.programs.specs.Mentions.{Label, is_persist}
 use Rattle.programs.specs.Vectors.{Env, Named, nothing}
 use Rattle.programs.specs.Outlines.{outlines}
-use Rattle.programs.specs.Reaching.{Reached, reach_if, reach_one, reached, is_reached}
+use Rattle.programs.specs.Reaching.{Reached, reach_if, reached, is_reached}
 use Rattle.slot_columns.specs.declared.stop.Stop.{Stop}
 use Rattle.slot_columns.specs.declared.stop.Stop.TheVariants.{NoMemory, Overflow}
 use Rattle.slot_columns.specs.Stops.{StopsAt}

@@ -9,7 +9,7 @@ use Rattle.key_paths.specs.Paths.{IsPath}
 use Rattle.key_paths.specs.Substructures.{is_at_or_below}
 use Rattle.control_vectors.specs.Slots.{Slot}
 use Rattle.struct_vectors.specs.Columns.{ColumnValue}
-use Rattle.struct_vectors.specs.Vectors.{VectorValue, paths_of}
+use Rattle.struct_vectors.specs.Vectors.{paths_of}
 use Rattle.slot_moves.specs.Moves.{gathered}
 use Rattle.programs.specs.Mentions.{Label}
 use Rattle.programs.specs.Vectors.{Attribute, seen_attributes}

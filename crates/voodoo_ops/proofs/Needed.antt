@@ -1,5 +1,5 @@
 -- The results of some statements depend on the vectors that the reached ones among them mention.
-use Rattle.std.proofs.Common.{◌≡◌, List, [], ◌∷◌, ◌++◌, Bool, true, false, ◌||◌, refl, ap, sym, ◌∙◌, if◌then◌else◌, Option, Some, None, Result, Ok, Err}
+use Rattle.std.proofs.Common.{◌≡◌, List, [], ◌∷◌, Bool, true, false, ◌||◌, refl, ap, sym, ◌∙◌, if◌then◌else◌, Option, Some, None, Result, Ok, Err}
 use Rattle.std.specs.Option.{option_map}
 use Rattle.std.specs.Str.{bytes_eq}
 use Rattle.std.proofs.lemmas.Slice.Eq.{bytes_eq-Decides}
@@ -7,7 +7,7 @@ use Rattle.control_vectors.specs.declared.Over.{Over}
 use Rattle.programs.specs.declared.op.Statement.{Statement}
 use Rattle.programs.specs.Families.{family}
 use Rattle.programs.specs.Mentions.{Label, mentioned, has_name}
-use Rattle.programs.specs.Outlines.{Outline, outline_of}
+use Rattle.programs.specs.Outlines.{outline_of}
 use Rattle.programs.specs.Reaching.{reach_if, reached, is_reached}
 use Rattle.programs.specs.Vectors.{Vector, Env, Named, put}
 use Rattle.programs.proofs.Marks.{has_name-append}

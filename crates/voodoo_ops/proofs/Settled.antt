@@ -1,5 +1,5 @@
 -- In a program that passes the check no vector is made twice, so that a result stays what it is where its Persist is met.
-use Rattle.std.proofs.Common.{◌≡◌, List, [], ◌∷◌, ◌++◌, Bool, true, false, ◌||◌, refl, ap, sym, ◌∙◌, subst, if◌then◌else◌, Option, Some, None, Result, Ok, Err}
+use Rattle.std.proofs.Common.{◌≡◌, List, [], ◌∷◌, ◌++◌, Bool, true, false, ◌||◌, refl, ap, sym, ◌∙◌, if◌then◌else◌, Option, Some, None, Result, Ok, Err}
 use Rattle.std.specs.Prelude.{is_some, is_none}
 use Rattle.std.specs.Str.{bytes_eq}
 use Rattle.std.proofs.lemmas.Bool.{false≢true}
@@ -9,12 +9,12 @@ use Rattle.programs.specs.declared.op.Op.{Op}
 use Rattle.programs.specs.declared.op.ProgramKind.{ProgramKind}
 use Rattle.programs.specs.declared.op.Statement.{Statement}
 use Rattle.programs.specs.Families.{Family, family, Persist}
-use Rattle.programs.specs.Mentions.{Label, shows_result, is_persist, has_name}
+use Rattle.programs.specs.Mentions.{Label, shows_result, is_persist}
 use Rattle.programs.specs.Outlines.{Outline, Shapes, add_shape}
 use Rattle.programs.specs.MadeOutlines.{made_outline}
 use Rattle.programs.specs.Faults.{first_fault, op_tests, tests_by}
-use Rattle.programs.specs.Check.{Known, learn, fault_of, name_twice, check_from}
-use Rattle.programs.specs.Reaching.{Reached, reach_if, reached, is_reached}
+use Rattle.programs.specs.Check.{Known, learn, fault_of, check_from}
+use Rattle.programs.specs.Reaching.{reach_if, reached, is_reached}
 use Rattle.programs.specs.Vectors.{Vector, Env, Named, put, known}
 use Rattle.voodoo_ops.specs.Meaning.{Run, effect_by, effect, after_effect, step, then_run, run_from, result_of, results, shown}
 use Rattle.voodoo_ops.specs.Streams.{behind, then_show, results_from}

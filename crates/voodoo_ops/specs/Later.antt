@@ -1,5 +1,5 @@
 -- What is left of the vectors by name, behind a statement: those that a later one reads.
-use Rattle.std.specs.Prelude.{◌≡◌, ℕ, Bool, true, false, Result, Ok, Err}
+use Rattle.std.specs.Prelude.{◌≡◌, Bool, true, false, Result, Ok, Err}
 use Rattle.std.specs.Str.{bytes_eq}
 use Rattle.slot_columns.specs.declared.stop.Stop.{Stop}
 use Rattle.slot_columns.specs.Stops.{StopsAt}

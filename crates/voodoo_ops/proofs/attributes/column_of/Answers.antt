@@ -1,9 +1,6 @@
 use Rattle.std.proofs.Common.{arith, refl, sym}
-use Rattle.std.specs.Map.{lookup}
-use Rattle.std.specs.Str.{bytes_eq}
 use Rattle.std.specs.Vec.Iter.{into_iter_items}
 use Rattle.programs.specs.Vectors.{seen}
-use Rattle.voodoo_ops.specs.Columns.{Attributes}
 use Rattle.voodoo_ops.proofs.Seen.{column_first, found_slots, none_there, not_found}
 use Rattle.voodoo_ops.proofs.attributes.column_of.Goals as goal
 

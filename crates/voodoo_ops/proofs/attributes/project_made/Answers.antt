@@ -1,13 +1,7 @@
 use Rattle.std.proofs.Common.{ap, sym, ◌∙◌, map, Ok}
 use Rattle.std.specs.Prelude.{Result}
-use Rattle.std.specs.List.{list_any}
 use Rattle.control_vectors.specs.declared.Over.{Over}
-use Rattle.programs.specs.Mentions.{Label}
-use Rattle.programs.specs.Moves.{is_deep}
-use Rattle.programs.specs.Vectors.{Attribute, Vector, known, seen}
-use Rattle.struct_vectors.specs.Vectors.{paths_of}
-use Rattle.voodoo_ops.specs.Attributes.{projected}
-use Rattle.voodoo_ops.specs.Columns.{Attributes, moved_columns}
+use Rattle.programs.specs.Vectors.{Vector, known, seen}
 use Rattle.voodoo_ops.specs.Envs.{env_in}
 use Rattle.voodoo_ops.specs.Handing.{under}
 use Rattle.voodoo_ops.proofs.HandedOn.{project_seen, project_shaped, all_below, below_shallow}

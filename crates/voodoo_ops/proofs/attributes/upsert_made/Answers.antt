@@ -1,4 +1,4 @@
-use Rattle.std.proofs.Common.{◌≤◌, ◌^◌, ap, sym, subst, ◌∙◌, ◌∷◌, [], arith, Ok, Option}
+use Rattle.std.proofs.Common.{ap, sym, subst, ◌∙◌, ◌∷◌, [], Ok, Option}
 use Rattle.std.specs.Prelude.{Result, is_some}
 use Rattle.control_vectors.specs.declared.Over.{Over}
 use Rattle.programs.specs.Merges.{merged}

@@ -1,4 +1,4 @@
-use Rattle.std.proofs.Common.{ℕ, ◌∙◌, ◌∷◌, [], List, length, arith, ap, sym}
+use Rattle.std.proofs.Common.{ℕ, ◌∙◌, length, arith, ap, sym}
 use Rattle.std.specs.List.{prefix_len, insert}
 use Rattle.std.proofs.lemmas.List.Sums.{prefix_len-le-length}
 use Rattle.key_paths.specs.Substructures.{is_before}

@@ -1,4 +1,4 @@
-use Rattle.std.proofs.Common.{sym, ap, not, ◌∙◌}
+use Rattle.std.proofs.Common.{sym}
 use Rattle.voodoo_ops.specs.Envs.{env_in}
 use Rattle.voodoo_ops.proofs.Kept.{keeps_without}
 use Rattle.voodoo_ops.proofs.handing.forget_one.Goals as goal

@@ -1,4 +1,4 @@
-use Rattle.voodoo_ops.proofs.Popped.{popped_first, popped_second}
+use Rattle.voodoo_ops.proofs.Popped.{popped_second}
 use Rattle.voodoo_ops.proofs.zip.pop_first.Goals as goal
 
 pub returns-then-takes_second-clause-first : goal.returns-then-takes_second-clause-first

@@ -1,7 +1,6 @@
 use Rattle.std.proofs.Common.{◌≡◌, min, ap, refl, ◌∙◌, arith}
-use Rattle.programs.specs.Vectors.{Vector, seen}
-use Rattle.struct_vectors.specs.Vectors.{VectorValue}
-use Rattle.voodoo_ops.specs.Columns.{Attributes, fronts}
+use Rattle.programs.specs.Vectors.{seen}
+use Rattle.voodoo_ops.specs.Columns.{fronts}
 use Rattle.voodoo_ops.specs.Handing.{HandsOn}
 use Rattle.voodoo_ops.proofs.Zips.{hands_seen, hands_shaped}
 use Rattle.voodoo_ops.proofs.zip.zip.Goals as goal

@@ -2,10 +2,9 @@ use Rattle.std.proofs.Common.{◌≡◌, min, ap, sym, subst, ◌∙◌, arith, 
 use Rattle.std.specs.Prelude.{Result, is_some}
 use Rattle.control_vectors.specs.declared.Over.{Over}
 use Rattle.programs.specs.Vectors.{Vector, known, seen}
-use Rattle.voodoo_ops.specs.Columns.{Attributes, fronts}
+use Rattle.voodoo_ops.specs.Columns.{fronts}
 use Rattle.voodoo_ops.specs.Envs.{env_in}
 use Rattle.voodoo_ops.specs.Handing.{HandsOn}
-use Rattle.voodoo_ops.proofs.Kept.{keeps_then}
 use Rattle.voodoo_ops.proofs.Zips.{hands_seen, hands_shaped}
 use Rattle.voodoo_ops.proofs.zip.zip_made.Goals as goal
 
