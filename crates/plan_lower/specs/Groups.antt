@@ -80,15 +80,20 @@ run_groups rows runs = do
   marks ← make (codes "marks") (with_attribute runs val rows.vector mark)
   first_marks marks
 
+-- the groups of sorted rows, in their runs
+abbrev pub keyed_groups : Base → List ColumnRef → Label → Label → Writer Folding
+keyed_groups rows columns nought runs = do
+  vector ← run_groups rows runs
+  zero ← nought_at vector
+  groups ← through (key_of rows zero) (marked_alone vector) (enumerate_from 0 columns)
+  tell (record { rows = rows; nought = nought; runs = runs; first = None; groups = groups; zero = zero })
+
 abbrev pub by_columns : Base → List ColumnRef → Writer Folding
 by_columns b columns = do
   rows ← sorted b columns
   nought ← nought_at rows.vector
   runs ← runs_of rows columns
-  vector ← run_groups rows runs
-  zero ← nought_at vector
-  groups ← through (key_of rows zero) (marked_alone vector) (enumerate_from 0 columns)
-  tell (record { rows = rows; nought = nought; runs = runs; first = None; groups = groups; zero = zero })
+  keyed_groups rows columns nought runs
 
 -- ---- without group columns: one group, even of no rows, in a vector of one place
 
@@ -100,14 +105,18 @@ one_place word p control = make word (op.Range (size.Number 1) p control)
 abbrev pub one_run : Label → Writer Label
 one_run vector = make (codes "runs") (op.Range (size.Of vector) run zeros)
 
-abbrev pub as_one : Base → Writer Folding
-as_one b = do
-  nought ← nought_at b.vector
-  runs ← one_run b.vector
+abbrev pub one_group : Base → Label → Label → Writer Folding
+one_group b nought runs = do
   first ← one_place (codes "first") out zeros
   groups ← one_place (codes "groups") mark ones
   zero ← nought_at groups
   tell (record { rows = b; nought = nought; runs = runs; first = Some first; groups = marked_alone groups; zero = zero })
+
+abbrev pub as_one : Base → Writer Folding
+as_one b = do
+  nought ← nought_at b.vector
+  runs ← one_run b.vector
+  one_group b nought runs
 
 abbrev pub folding : Base → List ColumnRef → Writer Folding
 folding b [] = as_one b
@@ -131,9 +140,12 @@ folded f kind value = do
   fold_in f.first kind values
 
 -- 1 where a row has a value, 0 where it has a null
+abbrev pub same_in : Label → Writer Label
+same_in value = make (codes "same") (pair pair.Equals (attribute value out) (attribute value out))
+
 abbrev pub is_there : Folding → Label → Writer Label
 is_there f value = do
-  same ← make (codes "same") (pair pair.Equals (attribute value out) (attribute value out))
+  same ← same_in value
   make (codes "there") (pair pair.Fill (attribute same out) (attribute f.nought out))
 
 abbrev pub counted : Folding → Label → Writer Label
