@@ -1,7 +1,8 @@
 -- A plan's program passes its check, and makes no vector of more than 2^22 places: its parts one behind another, and the result at its end.
 use Rattle.std.proofs.Common.{◌≡◌, ℕ, ◌+◌, ◌≤◌, ◌^◌, Bool, true, false, ◌||◌, List, [], ◌∷◌, ◌++◌, length, nat_lt, refl, sym, ap, ◌∙◌, subst, option_to_list, option_map, if◌then◌else◌, Option, Some, None, Result, Ok, Err, ◌==◌, arith}
-use Rattle.std.specs.Prelude.{All, codes}
-use Rattle.std.specs.List.{list_any}
+use Rattle.std.specs.Prelude.{codes}
+use Rattle.std.specs.List.{All, list_any}
+use Rattle.lowered_answers.proofs.Lists.{all_none, all_more, all_head, all_tail}
 use Rattle.control_vectors.specs.Controls.{Control}
 use Rattle.programs.specs.declared.op.Op.TheVariants as op
 use Rattle.programs.specs.declared.op.Statement.{Statement}
@@ -158,14 +159,14 @@ body_passes runs h laws static g =
 
 no_limit : (k : ℕ) (shape : List Outline) → AreSmall shape → limit_from k shape ≡ None
 no_limit k [] h = refl
-no_limit k (o ∷ shape) h = ap (λ (b : Bool). if b then Some (k, o.len) else limit_from (k + 1) shape) (not_past o.len h.0) ∙ no_limit (k + 1) shape h.1
+no_limit k (o ∷ shape) h = ap (λ (b : Bool). if b then Some (k, o.len) else limit_from (k + 1) shape) (not_past o.len (all_head (λ o. o.len ≤ 2 ^ 22) o shape h)) ∙ no_limit (k + 1) shape (all_tail (λ o. o.len ≤ 2 ^ 22) o shape h)
   where
     not_past : (n : ℕ) → n ≤ 2 ^ 22 → nat_lt (2 ^ 22) n ≡ false
     not_past n small = omega (arith, small)
 
 one_more_small : (shape : List Outline) → AreSmall shape → AreSmall (shape ++ no_outline ∷ [])
-one_more_small [] h = (omega arith, tt)
-one_more_small (o ∷ shape) h = (h.0, one_more_small shape h.1)
+one_more_small [] h = all_more (λ o. o.len ≤ 2 ^ 22) no_outline [] (omega arith) h
+one_more_small (o ∷ shape) h = all_more (λ o. o.len ≤ 2 ^ 22) o (shape ++ no_outline ∷ []) (all_head (λ o. o.len ≤ 2 ^ 22) o shape h) (one_more_small shape (all_tail (λ o. o.len ≤ 2 ^ 22) o shape h))
 
 names_one : (a : List Statement) (name p : Label) → names_result (with_result a name p) ≡ true
 names_one [] name p = refl
@@ -185,7 +186,7 @@ passes_check runs h laws static g few =
     let ran : check_from (stored g) all at_start ≡ Ok last =
         check_from-append (stored g) w.statements (statement (codes "answer") (op.Persist w.told) ∷ []) at_start ∙ ap (λ (r : Checked). then_check r (check_from (stored g) (statement (codes "answer") (op.Persist w.told) ∷ []))) p.passes
         ∙ shown (stored g) p.after (codes "answer") w.told p.holds.0 (mark ∷ []) p.holds.1 (ap (λ (f : Label → Bool). f (codes "answer")) p.results) in
-    (last.shape, (within (nat_lt 65536 (length all)) (not_more (length all) few) ∙ ap (shape_of (names_result all)) ran ∙ ap (λ (b : Bool). shape_of b (Ok last)) (names_one w.statements (codes "answer") w.told), no_limit 1 last.shape (one_more_small p.after.shape (p.small tt))))
+    (last.shape, (within (nat_lt 65536 (length all)) (not_more (length all) few) ∙ ap (shape_of (names_result all)) ran ∙ ap (λ (b : Bool). shape_of b (Ok last)) (names_one w.statements (codes "answer") w.told), no_limit 1 last.shape (one_more_small p.after.shape (p.small (all_none (λ o. o.len ≤ 2 ^ 22))))))
   where
     not_more : (n : ℕ) → n ≤ 65536 → nat_lt 65536 n ≡ false
     not_more n small = omega (arith, small)

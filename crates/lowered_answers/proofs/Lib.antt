@@ -1,3 +1,4 @@
+pub mod Lists
 pub mod Delivering
 pub mod Alone
 pub mod Bodies

@@ -1,7 +1,8 @@
 -- What the parts of a plan's program make, one behind another: the rows of its answer, or they are Over where it is.
-use Rattle.std.proofs.Common.{◌≡◌, ℕ, ◌≤◌, ◌<◌, Bool, true, false, List, [], ◌∷◌, map, length, refl, sym, ap, ◌∙◌, subst, option_to_list, Option, Some, None, Result, Ok, Err, ◌^◌, ◌==◌, filter, not, zero, suc, length-map, arith}
-use Rattle.std.specs.List.{list_any}
-use Rattle.std.specs.Prelude.{All, slice_get}
+use Rattle.std.proofs.Common.{◌≡◌, ℕ, ◌≤◌, ◌<◌, Bool, true, false, List, [], ◌∷◌, map, length, refl, sym, ap, ◌∙◌, subst, option_to_list, Option, Some, None, Result, Ok, Err, ◌^◌, ◌==◌, filter, not, zero, suc, arith}
+use Rattle.std.specs.List.{All, list_any}
+use Rattle.std.specs.Prelude.{slice_get}
+use Rattle.std.proofs.lemmas.List.{length-map}
 use Rattle.std.proofs.lemmas.List.Filters.{length-filter_both}
 use Rattle.sql_values.specs.Values.{Value}
 use Rattle.expr_lower.specs.declared.places.ColumnPlace.{ColumnPlace}
@@ -41,6 +42,7 @@ use Rattle.lowered_stages.specs.Plans.{CanLower}
 use Rattle.lowered_premises.specs.Sources.{OverTable, texts_of, alone, met_rows, IsRowOf, IsGroupOf, HasGroupPlaces}
 use Rattle.lowered_premises.specs.Laws.{HasItsColumns, ColumnLaw, TableLaw, StandOnRows, RowsLaw, StandOnGroups, GroupsLaw, MemberLaws, HaveValues, PlacesLaw, HaveGroupValues, GroupPlacesLaw, where_rows, having_groups, ShapeLaws}
 use Rattle.lowered_answers.proofs.Alone.{stands_alone}
+use Rattle.lowered_answers.proofs.Lists.{all_none, all_more, all_head, all_tail}
 use Rattle.lowered_answers.proofs.Bodies.{items_on, behind_where, behind_rows, body}
 use Rattle.lowered_answers.proofs.Delivering.{Behind, makes_then, delivers_then, delivers_less, delivers_same}
 
@@ -93,7 +95,7 @@ abbrev TableStand : Given → Base → ℕ → Env → Type 0
 TableStand g b next after = Stands (texts g) b on_table (length g.table.rows) g.table.rows after × (IsBelow next b.vector × (HasColumnsOf 0 g.source.columns b × (All (λ p. p.column.source ≡ 0) b.columns × (b.aggregates ≡ []))))
 
 pub few_columns : (g : Given) → length g.source.columns ≤ 64
-few_columns g = (subst (All (λ s. length s.columns ≤ 64)) g.over.only g.can.few_columns).0
+few_columns g = all_head (λ s. length s.columns ≤ 64) g.source [] (subst (All (λ s. length s.columns ≤ 64)) g.over.only g.can.few_columns)
 
 pub table_made : RunLaws → Premises → (g : Given) → Makes (store g) (table_rows g.defs g.source.table g.source.columns) 0 nothing (TableStand g)
 table_made laws h g =
@@ -102,15 +104,22 @@ table_made laws h g =
 
 -- conditions are truths
 source_conditions : (g : Given) → All (IsCondition no_aggregate) g.source.filter
-source_conditions g = (subst (All IsSource) g.over.only g.can.well_formed.typed.sources).0
+source_conditions g = all_head IsSource g.source [] (subst (All IsSource) g.over.only g.can.well_formed.typed.sources)
 
 having_conditions : {at : ℕ → Option DataType} (having : Option TypedExpr) → ForSome having (IsCondition at) → All (IsCondition at) (option_to_list having)
-having_conditions None h = tt
-having_conditions (Some e) h = (h, tt)
+having_conditions {at} None h = all_none (IsCondition at)
+having_conditions {at} (Some e) h = all_more (IsCondition at) e [] h (all_none (IsCondition at))
 
 -- a part that keeps places
 pub has_same : (source : ℕ) (columns : List ℕ) (b c : Base) → SamePlaces b c → HasColumnsOf source columns b → HasColumnsOf source columns c
 has_same source columns b c s h = subst (λ (l : List ColumnPlace). All (λ k. list_any (λ p. same_column p.column (record { source = source; column = k })) l ≡ true) columns) (sym s.columns) h
+
+-- what is kept of a table's rows, and of from-rows, of a base
+abbrev TableKept : Given → Base → List Row → Base → ℕ → Env → Type 0
+TableKept g b left c n after = Stands (texts g) c on_table (length g.table.rows) left after × (IsBelow n c.vector × SamePlaces b c)
+
+abbrev RowsKept : Given → Base → List FromRow → Base → ℕ → Env → Type 0
+RowsKept g b left c n after = Stands (texts g) c on_row (length g.table.rows) left after × (IsBelow n c.vector × SamePlaces b c)
 
 -- the conditions of the source alone
 source_kept : RunLaws → Premises → (g : Given) (b : Base) (next : ℕ) (between : Env) → TableStand g b next between → Delivers (store g) (kept g.select (texts g) b g.source.filter) next between (Ok (met_rows g.source g.table)) (λ rows. RowsStand g (map alone rows))
@@ -118,14 +127,11 @@ source_kept laws h g b next between (stands, (below, (places, (first, none)))) =
     let values = (h.places g.defs g.ts g.plan g.source g.def g.table b g.can g.over places).source in
     let asked = h.table g.defs g.ts g.plan g.source g.def g.table g.can g.over in
     let made = laws.kept_run Row g.select (texts g) no_aggregate on_table (length g.table.rows) g.table.rows b g.source.filter next (store g) between (source_conditions g) values asked below stands in
-    let kept_so : Delivers (store g) (kept g.select (texts g) b g.source.filter) next between (Ok (met_rows g.source g.table)) KeptSo =
-        subst (λ (r : Result (List Row) Over). Delivers (store g) (kept g.select (texts g) b g.source.filter) next between r KeptSo) (h.shapes.kept_are g.defs g.ts g.plan g.source g.def g.table g.can g.over) made in
-    delivers_same (store g) (kept g.select (texts g) b g.source.filter) next between (Ok (met_rows g.source g.table)) KeptSo (λ rows. RowsStand g (map alone rows)) so kept_so
+    let kept_so : Delivers (store g) (kept g.select (texts g) b g.source.filter) next between (Ok (met_rows g.source g.table)) (TableKept g b) =
+        subst (λ (r : Result (List Row) Over). Delivers (store g) (kept g.select (texts g) b g.source.filter) next between r (TableKept g b)) (h.shapes.kept_are g.defs g.ts g.plan g.source g.def g.table g.can g.over) made in
+    delivers_same (store g) (kept g.select (texts g) b g.source.filter) next between (Ok (met_rows g.source g.table)) (TableKept g b) (λ rows. RowsStand g (map alone rows)) so kept_so
   where
-    abbrev KeptSo : List Row → Base → ℕ → Env → Type 0
-    KeptSo left c n after = Stands (texts g) c on_table (length g.table.rows) left after × (IsBelow n c.vector × SamePlaces b c)
-
-    so : (rows : List Row) (c : Base) (n : ℕ) (after : Env) → Ok (met_rows g.source g.table) ≡ Ok rows → KeptSo rows c n after → RowsStand g (map alone rows) c n after
+    so : (rows : List Row) (c : Base) (n : ℕ) (after : Env) → Ok (met_rows g.source g.table) ≡ Ok rows → (TableKept g b) rows c n after → RowsStand g (map alone rows) c n after
     so rows c n after e (stand, (name, same)) = (
       stands_alone (texts g) c (length g.table.rows) rows after (subst (All (λ p. p.column.source ≡ 0)) (sym same.columns) first) (same.aggregates ∙ none) stand,
       (name, has_same 0 g.source.columns b c same places),
@@ -152,8 +158,8 @@ few_rows g = by g.ts g.source.table g.over.stored g.can.database.short
   where
     by : (ts : List Table) (n : ℕ) → slice_get ts n ≡ Some g.table → All (λ t. length t.rows ≤ 2 ^ 20) ts → length g.table.rows ≤ 2 ^ 20
     by [] n e h = absurd cc
-    by (t ∷ ts) zero e h = subst (λ (u : Table). length u.rows ≤ 2 ^ 20) (some_same t g.table e) h.0
-    by (t ∷ ts) (suc n) e h = by ts n e h.1
+    by (t ∷ ts) zero e h = subst (λ (u : Table). length u.rows ≤ 2 ^ 20) (some_same t g.table e) (all_head (λ t. length t.rows ≤ 2 ^ 20) t ts h)
+    by (t ∷ ts) (suc n) e h = by ts n e (all_tail (λ t. length t.rows ≤ 2 ^ 20) t ts h)
 
     some_same : (a b : Table) → Some a ≡ Some b → a ≡ b
     some_same a b q = cc
@@ -170,7 +176,7 @@ kept_few c rows left e = by (each c rows) e
     ok_same a b q = cc
 
 met_few : (g : Given) → length (map alone (met_rows g.source g.table)) ≤ 2 ^ 20
-met_few g = omega (arith, length-map alone (met_rows g.source g.table), filter_few (meets g.source.filter) g.table.rows, few_rows g)
+met_few g = omega (arith, length-map (met_rows g.source g.table) alone, filter_few (meets g.source.filter) g.table.rows, few_rows g)
 
 where_few : (g : Given) (rows : List FromRow) → where_rows g.plan g.source g.table ≡ Ok rows → length rows ≤ 2 ^ 20
 where_few g rows e = omega (arith, kept_few (λ row. condition g.plan.filter (on_row row)) (map alone (met_rows g.source g.table)) rows e, met_few g)
@@ -183,13 +189,10 @@ where_made laws h g b next between (stands, (below, places)) =
     let rows = map alone (met_rows g.source g.table) in
     let values = (h.places g.defs g.ts g.plan g.source g.def g.table b g.can g.over places).filter in
     let asked = (h.rows g.defs g.ts g.plan g.source g.def g.table rows g.can g.over (all_rows h g) (met_few g)).filter in
-    delivers_same (store g) (kept g.select (texts g) b g.plan.filter) next between (where_rows g.plan g.source g.table) KeptSo (RowsStand g) so
+    delivers_same (store g) (kept g.select (texts g) b g.plan.filter) next between (where_rows g.plan g.source g.table) (RowsKept g b) (RowsStand g) so
     (laws.kept_run FromRow g.select (texts g) no_aggregate on_row (length g.table.rows) rows b g.plan.filter next (store g) between g.can.well_formed.typed.filter values asked below stands)
   where
-    abbrev KeptSo : List FromRow → Base → ℕ → Env → Type 0
-    KeptSo left c n after = Stands (texts g) c on_row (length g.table.rows) left after × (IsBelow n c.vector × SamePlaces b c)
-
-    so : (left : List FromRow) (c : Base) (n : ℕ) (after : Env) → where_rows g.plan g.source g.table ≡ Ok left → KeptSo left c n after → RowsStand g left c n after
+    so : (left : List FromRow) (c : Base) (n : ℕ) (after : Env) → where_rows g.plan g.source g.table ≡ Ok left → (RowsKept g b) left c n after → RowsStand g left c n after
     so left c n after e (stand, (name, same)) = (stand, (name, has_same 0 g.source.columns b c same places))
 
 -- ---- the items of rows, or of groups
@@ -200,39 +203,39 @@ clauses g = clauses_of_plan g.plan
 abbrev AnswerAt : Given → List Row → Label → ℕ → Env → Type 0
 AnswerAt g rows name next after = HoldsAt (texts g) (length g.plan.items) rows name next after
 
+abbrev ItemsMade : Given → List OutputRow → Label → ℕ → Env → Type 0
+ItemsMade g outputs name next after = (v : Vector) × (Sees after name v × (HoldsItems (texts g) (length g.plan.items) (answer_rows (clauses g) outputs) v × IsBelow next name))
+
 items_made : {A : Type 0} (laws : RunLaws) (g : Given) (on : A → On) (len : ℕ) (rows : List A) (b : Base) (k : ℕ) (env : Env)
     → All (CanValue (types_of g.plan.aggregates) b) g.plan.items → All (CanValueAll (texts g) (types_of g.plan.aggregates) on rows) g.plan.items → All (λ key. IsKeyOf (length g.plan.items) b key.key) g.plan.order → All (λ key. key_alike (texts g) on rows key.key) g.plan.order
     → IsBelow k b.vector → Stands (texts g) b on len rows env
     → Delivers (store g) (items_on (texts g) g.plan b) k env (overs.◌>>=◌ (each (λ a. output_row (clauses g) (on a)) rows) (λ outputs. Ok (answer_rows (clauses g) outputs))) (AnswerAt g)
 items_made {A} laws g on len rows b k env values asked keys alike below stands =
-    delivers_less (store g) (items_on (texts g) g.plan b) k env (each (λ a. output_row (clauses g) (on a)) rows) (answer_rows (clauses g)) Made (AnswerAt g) (λ outputs name next after e h. (h.0, (h.1.0, h.1.1.0)))
+    delivers_less (store g) (items_on (texts g) g.plan b) k env (each (λ a. output_row (clauses g) (on a)) rows) (answer_rows (clauses g)) (ItemsMade g) (AnswerAt g) (λ outputs name next after e h. (h.0, (h.1.0, h.1.1.0)))
     (laws.items_run A (texts g) (types_of g.plan.aggregates) on (clauses g) len rows b k (store g) env values asked g.can.well_formed.few_items g.can.well_formed.few_keys keys alike below stands)
-  where
-    abbrev Made : List OutputRow → Label → ℕ → Env → Type 0
-    Made outputs name next after = (v : Vector) × (Sees after name v × (HoldsItems (texts g) (length g.plan.items) (answer_rows (clauses g) outputs) v × IsBelow next name))
 
 abbrev GroupsStand : Given → List On → Base → ℕ → Env → Type 0
 GroupsStand g groups c next after = (count : ℕ) × (Stands (texts g) c itself count groups after × (IsBelow next c.vector × HasGroupPlaces (clauses g) c))
+
+abbrev GroupsMade : Given → List On → Base → ℕ → Env → Type 0
+GroupsMade g groups c next after = (count : ℕ) × (Stands (texts g) c itself count groups after × (IsBelow next c.vector × (All (λ u. list_any (λ p. same_column p.column u) c.columns ≡ true) g.plan.groups × ((n : ℕ) → n < length g.plan.aggregates → list_any (λ p. p.aggregate == n) c.aggregates ≡ true))))
 
 having_made : RunLaws → Premises → (g : Given) → g.plan.grouped ≡ true → (rows : List FromRow) → All (IsRowOf g.table) rows → length rows ≤ 2 ^ 20 → (b : Base) (k : ℕ) (env : Env) → RowsStand g rows b k env
     → Delivers (store g) (stands_on g.select (texts g) g.plan true b) k env (having_groups g.plan rows) (GroupsStand g)
 having_made laws h g is rows members few b k env (stands, (below, places)) =
     let values = (h.places g.defs g.ts g.plan g.source g.def g.table b g.can g.over places).grouping in
     let asked = (h.rows g.defs g.ts g.plan g.source g.def g.table rows g.can g.over members few).grouping in
-    delivers_then (store g) (grouped (texts g) b g.plan.groups g.plan.aggregates) (λ c. kept g.select (texts g) c (option_to_list g.plan.having)) k env (each (on_group (clauses g)) (groups_of g.plan.groups rows)) Grouped
+    delivers_then (store g) (grouped (texts g) b g.plan.groups g.plan.aggregates) (λ c. kept g.select (texts g) c (option_to_list g.plan.having)) k env (each (on_group (clauses g)) (groups_of g.plan.groups rows)) (GroupsMade g)
     (λ groups. overs.kept (λ on. condition (option_to_list g.plan.having) (itself on)) groups) (GroupsStand g)
     (laws.grouped_run (texts g) (clauses g) (length g.table.rows) rows b k (store g) env values asked below stands) kept_groups
   where
-    abbrev Grouped : List On → Base → ℕ → Env → Type 0
-    Grouped groups c next after = (count : ℕ) × (Stands (texts g) c itself count groups after × (IsBelow next c.vector × (All (λ u. list_any (λ p. same_column p.column u) c.columns ≡ true) g.plan.groups × ((n : ℕ) → n < length g.plan.aggregates → list_any (λ p. p.aggregate == n) c.aggregates ≡ true))))
-
     still_places : (c d : Base) → SamePlaces c d → HasGroupPlaces (clauses g) c → HasGroupPlaces (clauses g) d
     still_places c d s p = record {
       columns = subst (λ (l : List ColumnPlace). All (λ u. list_any (λ p. same_column p.column u) l ≡ true) g.plan.groups) (sym s.columns) p.columns;
       aggregates = λ n less. ap (λ (l : List AggregatePlace). list_any (λ p. p.aggregate == n) l) s.aggregates ∙ p.aggregates n less;
     }
 
-    kept_groups : (groups : List On) → each (on_group (clauses g)) (groups_of g.plan.groups rows) ≡ Ok groups → Behind (store g) (λ c. kept g.select (texts g) c (option_to_list g.plan.having)) k env (Grouped groups) (overs.kept (λ on. condition (option_to_list g.plan.having) (itself on)) groups) (GroupsStand g)
+    kept_groups : (groups : List On) → each (on_group (clauses g)) (groups_of g.plan.groups rows) ≡ Ok groups → Behind (store g) (λ c. kept g.select (texts g) c (option_to_list g.plan.having)) k env (GroupsMade g groups) (overs.kept (λ on. condition (option_to_list g.plan.having) (itself on)) groups) (GroupsStand g)
     kept_groups groups made c next between le (count, (stand, (name, (columns, aggregates)))) still =
         let places_of : HasGroupPlaces (clauses g) c = record { columns = columns; aggregates = aggregates } in
         let having = (h.group_places g.defs g.ts g.plan g.source g.def g.table c g.can g.over is places_of).having in

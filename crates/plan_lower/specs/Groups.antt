@@ -81,12 +81,16 @@ run_groups rows runs = do
   first_marks marks
 
 -- the groups of sorted rows, in their runs
-abbrev pub keyed_groups : Base → List ColumnRef → Label → Label → Writer Folding
-keyed_groups rows columns nought runs = do
-  vector ← run_groups rows runs
+abbrev pub keyed : Base → List ColumnRef → Label → Label → Label → Writer Folding
+keyed rows columns nought runs vector = do
   zero ← nought_at vector
   groups ← through (key_of rows zero) (marked_alone vector) (enumerate_from 0 columns)
   tell (record { rows = rows; nought = nought; runs = runs; first = None; groups = groups; zero = zero })
+
+abbrev pub keyed_groups : Base → List ColumnRef → Label → Label → Writer Folding
+keyed_groups rows columns nought runs = do
+  vector ← run_groups rows runs
+  keyed rows columns nought runs vector
 
 abbrev pub by_columns : Base → List ColumnRef → Writer Folding
 by_columns b columns = do
