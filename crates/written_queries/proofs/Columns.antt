@@ -1,11 +1,10 @@
 -- The columns that names mean have the scales of their definitions.
-use Rattle.std.proofs.Common.{◌≡◌, ℕ, zero, suc, ◌≤◌, Bool, true, false, not, List, [], ◌∷◌, Option, Some, None, Ok, if◌then◌else◌, refl, subst}
+use Rattle.std.proofs.Common.{◌≡◌, ℕ, zero, suc, Bool, true, false, not, List, [], ◌∷◌, Option, Some, None, Ok, if◌then◌else◌, refl, subst}
 use Rattle.std.specs.Prelude.{All, option_to_list}
 use Rattle.std.specs.Str.{bytes_eq}
 use Rattle.std.proofs.lemmas.List.Elements.{All-nil, All-cons, All-head, All-tail, All-append}
 use Rattle.sql_read.specs.declared.definition.ColumnDef.{ColumnDef}
 use Rattle.sql_read.specs.declared.definition.TableDef.{TableDef}
-use Rattle.sql_read.specs.Lexis.{max_scale}
 use Rattle.sql_types.specs.Catalog.{is_column_named}
 use Rattle.query_trees.specs.declared.expr.ColumnName.{ColumnName}
 use Rattle.typed_trees.proofs.Inversions.{some_same}
@@ -16,16 +15,16 @@ use Rattle.query_types.specs.declared.stars.Starred.{Starred}
 use Rattle.query_types.specs.Grouping.{starred, table_columns, every_column}
 use Rattle.query_types.specs.Names.{Scope, columns_of, found, in_columns, column_in, holders, only, bare, or_unknown, in_table, qualified, resolved_by, resolved, may_stand, standing, column}
 use Rattle.query_types.proofs.OutcomeLaws.{ok_same, then_ok, not_refused}
-use Rattle.written_queries.specs.Scales.{HasScales}
+use Rattle.written_queries.specs.Scales.{IsScaledAs, HasScales}
 
 abbrev Scaled : ColumnDef → Type 0
-Scaled c = c.scale ≤ max_scale
+Scaled c = IsScaledAs c.kind c.scale
 
 abbrev pub IsScaled : Found → Type 0
-IsScaled f = f.type_.scale ≤ max_scale
+IsScaled f = IsScaledAs f.type_.kind f.type_.scale
 
 abbrev pub IsScaledStar : Starred → Type 0
-IsScaledStar f = f.type_.scale ≤ max_scale
+IsScaledStar f = IsScaledAs f.type_.kind f.type_.scale
 
 columns_scaled : (defs : List TableDef) (n : ℕ) → HasScales defs → All Scaled (columns_of defs n)
 columns_scaled [] n h = All-nil Scaled

@@ -1,5 +1,5 @@
 -- The literals of each form that typing gives are as the grammar has them, where those of its operands are, and its scale is at most 36.
-use Rattle.std.proofs.Common.{◌≡◌, ◌∙◌, ℕ, ℤ, pos, negsuc, ◌+◌, ◌^◌, ◌≤◌, ◌<◌, ◌==◌, Bool, true, not, ◌&&◌, List, [], ◌∷◌, map, max, Ok, refl, subst, arith}
+use Rattle.std.proofs.Common.{◌≡◌, ◌∙◌, ℕ, ℤ, pos, negsuc, ◌+◌, ◌^◌, ◌≤◌, ◌<◌, ◌==◌, Bool, true, not, ◌&&◌, List, [], ◌∷◌, map, max, Ok, refl, subst, ap, arith}
 use Rattle.std.specs.Prelude.{All, nat_le}
 use Rattle.std.specs.List.{list_all}
 use Rattle.std.proofs.lemmas.Bool.{not-false, and_from, and_parts, le-leb, leb-true, lt-ltb}
@@ -8,6 +8,8 @@ use Rattle.std.proofs.lemmas.Bool.Decides.{nat_tests}
 use Rattle.control_vectors.specs.Slots.{fits_128}
 use Rattle.civil_days.specs.Dates.{in_range}
 use Rattle.sql_read.specs.Lexis.{max_integer, max_scale}
+use Rattle.sql_read.specs.declared.definition.ColumnKind.{ColumnKind}
+use Rattle.sql_read.specs.declared.definition.ColumnKind.TheVariants as column
 use Rattle.query_trees.specs.declared.expr.AggregateKind.{AggregateKind as Written}
 use Rattle.query_trees.specs.declared.expr.AggregateKind.TheVariants as written
 use Rattle.query_trees.specs.declared.expr.BinaryOp.{BinaryOp}
@@ -33,8 +35,8 @@ use Rattle.query_types.specs.Names.{Scope, column}
 use Rattle.query_types.specs.Expressions as t
 use Rattle.query_types.specs.Expressions.{values, scales}
 use Rattle.query_types.proofs.OutcomeLaws.{ok_same, then_ok, not_refused}
-use Rattle.expr_values.specs.Written.{fits_127, is_scale, is_written}
-use Rattle.written_queries.specs.Scales.{HasScales}
+use Rattle.expr_values.specs.Written.{fits_127, is_scale, kind_scale, is_written}
+use Rattle.written_queries.specs.Scales.{IsScaledAs, HasScales}
 use Rattle.written_queries.proofs.Columns.{named_scaled}
 use Rattle.written_queries.proofs.WrittenForms.{written_Number, written_Text, written_Date, written_Column, written_Aggregate, written_Signed, written_Not, written_Binary, written_Divide, written_Between, written_In, written_IsNull, written_Coalesce}
 
@@ -55,6 +57,18 @@ fits n h = lt-ltb n (2 ^ 127) (omega (arith, leb-true n max_integer h, most_127)
 
 scaled : (n : ℕ) → n ≤ 36 → is_scale n ≡ true
 scaled n h = le-leb n 36 h
+
+column_most : (kind : ColumnKind) (n : ℕ) → IsScaledAs kind n → n ≤ 36
+column_most column.Integer n h = omega (arith, h)
+column_most column.Date n h = omega (arith, h)
+column_most column.Text n h = omega (arith, h)
+column_most column.Decimal n h = omega (arith, h)
+
+column_kind : (kind : ColumnKind) (n : ℕ) → IsScaledAs kind n → kind_scale (kind_of kind) n ≡ true
+column_kind column.Integer n h = scaled n (column_most column.Integer n h)
+column_kind column.Date n h = scaled n (column_most column.Date n h)
+column_kind column.Text n h = ap (λ (m : ℕ). m == 0) h
+column_kind column.Decimal n h = scaled n (column_most column.Decimal n h)
 
 day_fits : (day : ℤ) → in_range day ≡ true → fits_128 day ≡ true
 day_fits (pos n) h = lt-ltb n (2 ^ 127) (omega (arith, leb-true n 2932896 h, most_127))
@@ -80,10 +94,8 @@ text_good Alone text at x is = absurd (cc)
 abbrev pub column_of : ColumnRef → ColumnType → Typed
 column_of c type = t.typed_as (kind_of type.kind) type.scale (e.Column c type)
 
-pub found_good : (c : ColumnRef) (type : ColumnType) → type.scale ≤ max_scale → Good (column_of c type)
-found_good c type h =
-    let most : type.scale ≤ 36 = omega (arith, h) in
-    record { written = written_Column c type ∙ scaled type.scale most; scale = most }
+pub found_good : (c : ColumnRef) (type : ColumnType) → IsScaledAs type.kind type.scale → Good (column_of c type)
+found_good c type h = record { written = written_Column c type ∙ column_kind type.kind type.scale h; scale = column_most type.kind type.scale h }
 
 pub column_good : (s : Scope) (c : ColumnName) (x : Typed) → HasScales s.defs → t.named s c ≡ Ok x → Good x
 unfolding t.named

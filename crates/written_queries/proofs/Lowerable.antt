@@ -1,7 +1,8 @@
 -- Each expression of a plan that is well formed, and whose literals are as the grammar has them, can be lowered.
 use Rattle.std.proofs.Common.{◌≡◌, ℕ, Bool, true, List, [], ◌∷◌, ◌++◌, Option, Some, None, option_to_list, refl, subst}
-use Rattle.std.specs.Prelude.{All, IsSome}
+use Rattle.std.specs.Prelude.{All, IsSome, slice_get}
 use Rattle.std.specs.Option.{option_and_then, ForSome}
+use Rattle.std.proofs.lemmas.Option.{get_or_from_slice_get, slice_get_within}
 use Rattle.std.proofs.lemmas.List.Elements.{All-nil, All-cons, All-head, All-tail}
 use Rattle.typed_trees.specs.declared.kinds.Kind.{Kind}
 use Rattle.typed_trees.specs.declared.kinds.Role.TheVariants.{Alone}
@@ -15,6 +16,8 @@ use Rattle.typed_trees.specs.Typed.{HasType, IsAggregate, IsSource, IsTyped, is_
 use Rattle.typed_trees.specs.Types.{DataType, type_of, no_aggregate, folded_type, argument_type, types_of}
 use Rattle.typed_trees.proofs.Inversions.{some_same}
 use Rattle.expr_values.specs.Laws.{IsLowerable}
+use Rattle.expr_values.specs.Written.{AreScaled}
+use Rattle.expr_values.proofs.AggregateScales.{none_scaled, aggregates_scaled}
 use Rattle.rel_plan.specs.declared.plans.RelPlan.{RelPlan}
 use Rattle.rel_plan.specs.Plans.{conditions_of_sources, arguments_of, expressions, plan_of}
 use Rattle.rel_plan.specs.Prunes.{pruned}
@@ -30,9 +33,9 @@ apart (x ∷ xs) ys h =
     let rest = apart xs ys (All-tail IsAsWritten x (xs ++ ys) h) in
     (All-cons IsAsWritten x xs (All-head IsAsWritten x (xs ++ ys) h) rest.0, rest.1)
 
-module _ (at : ℕ → Option DataType) (allowed : Kind → Bool) where
+module _ (at : ℕ → Option DataType) (aggregates : AreScaled at) (allowed : Kind → Bool) where
   lower : (e : TypedExpr) → HasType at allowed e → IsAsWritten e → IsLowerable at e
-  lower e h g = record { type = h.type; is = h.is; sides = h.sides; written = g }
+  lower e h g = record { type = h.type; is = h.is; aggregates = aggregates; sides = h.sides; written = g }
 
   lower_all : (es : List TypedExpr) → All (HasType at allowed) es → All IsAsWritten es → All (IsLowerable at) es
   lower_all [] h g = All-nil (IsLowerable at)
@@ -52,7 +55,7 @@ sources_lower : (ss : List PlanSource) → All IsSource ss → All IsAsWritten (
 sources_lower [] h g = All-nil Lowers
 sources_lower (s ∷ ss) h g =
     let both = apart s.filter (conditions_of_sources ss) g in
-    All-cons Lowers s ss (lower_all no_aggregate is_truth s.filter (All-head IsSource s ss h) both.0) (sources_lower ss (All-tail IsSource s ss h) both.1)
+    All-cons Lowers s ss (lower_all no_aggregate none_scaled is_truth s.filter (All-head IsSource s ss h) both.0) (sources_lower ss (All-tail IsSource s ss h) both.1)
 
 -- ---- the arguments of aggregates
 
@@ -64,7 +67,7 @@ argument_lowers : (kind : AggregateKind) (o : Option TypedExpr) → IsSome (argu
 argument_lowers kind None h sides g = λ e none. absurd (cc)
 argument_lowers kind (Some x) h sides g =
     let t = argument_typed kind (type_of no_aggregate x) h in
-    λ e same. subst (IsLowerable no_aggregate) (some_same x e same) (record { type = t.0; is = t.1; sides = sides x refl; written = All-head IsAsWritten x [] g })
+    λ e same. subst (IsLowerable no_aggregate) (some_same x e same) (record { type = t.0; is = t.1; aggregates = none_scaled; sides = sides x refl; written = All-head IsAsWritten x [] g })
 
 abbrev Folds : Aggregate → Type 0
 Folds a = ForSome a.argument (IsLowerable no_aggregate)
@@ -76,6 +79,13 @@ aggregates_lower (a ∷ more) h g =
     let one = All-head IsAggregate a more h in
     All-cons Folds a more (argument_lowers a.kind a.argument one.type one.sides both.0) (aggregates_lower more (All-tail IsAggregate a more h) both.1)
 
+folds_at : (aggregates : List Aggregate) → All Folds aggregates → (n : ℕ) (a : Aggregate) → slice_get aggregates n ≡ Some a → Folds a
+folds_at aggregates h n a at = subst Folds (get_or_from_slice_get aggregates n a a at) (h n a (slice_get_within aggregates n a at))
+
+-- so the scales of their types are scales of their kinds
+aggregate_scales : (aggregates : List Aggregate) → All Folds aggregates → AreScaled (types_of aggregates)
+aggregate_scales aggregates h = aggregates_scaled aggregates (λ n a e at is. (folds_at aggregates h n a at e is).written)
+
 -- ---- plans
 
 plan_lowers : (p : RelPlan) → IsTyped (query_of p) → All IsAsWritten (expressions p) → IsLowerablePlan p
@@ -86,12 +96,14 @@ plan_lowers p h g =
     let z = apart (arguments_of p.aggregates) last y.1 in
     let w = apart (option_to_list p.having) p.items z.1 in
     let at = types_of p.aggregates in
+    let folds = aggregates_lower p.aggregates h.aggregates z.0 in
+    let scales = aggregate_scales p.aggregates folds in
     record {
       sources = sources_lower p.sources h.sources y.0;
-      filter = lower_all no_aggregate is_truth p.filter h.filter x.0;
-      aggregates = aggregates_lower p.aggregates h.aggregates z.0;
-      having = lower_some at is_truth p.having h.having w.0;
-      items = lower_all at is_value p.items h.items w.1;
+      filter = lower_all no_aggregate none_scaled is_truth p.filter h.filter x.0;
+      aggregates = folds;
+      having = lower_some at scales is_truth p.having h.having w.0;
+      items = lower_all at scales is_value p.items h.items w.1;
     }
 
 pub lowerable_law : PlanWritten → WellFormedLaws → AnswerLaw → LowerableLaw

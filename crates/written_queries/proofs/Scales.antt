@@ -12,7 +12,7 @@ use Rattle.sql_read.specs.declared.definition.TableDef.{TableDef}
 use Rattle.sql_read.specs.declared.schema.ColumnType.{ColumnType}
 use Rattle.sql_read.specs.declared.schema.Draft.{Draft}
 use Rattle.sql_read.specs.declared.schema.Parts.{Parts}
-use Rattle.sql_read.specs.Lexis.{Bytes, max_scale}
+use Rattle.sql_read.specs.Lexis.{Bytes}
 use Rattle.sql_read.specs.Schema as g
 use Rattle.sql_read.specs.Schema.{word}
 use Rattle.sql_read.specs.SchemaText.{schema_tokens}
@@ -20,7 +20,7 @@ use Rattle.sql_read.specs.Tokens.{Tokens}
 use Rattle.sql_read.proofs.SchemaLaws.{schema_of-sound}
 use Rattle.sql_types.specs.Catalog.{findings}
 use Rattle.sql_types.specs.Widths.{IsSizedAs, IsSized}
-use Rattle.written_queries.specs.Scales.{HasScales, ScalesLaw}
+use Rattle.written_queries.specs.Scales.{IsScaledAs, HasScales, ScalesLaw}
 
 -- what is no decimal has no digit after the point
 abbrev IsPlainAs : ColumnKind → ℕ → Type 0
@@ -115,14 +115,14 @@ schema_plain text xs ts h = ⊎_elim
 
 -- ---- catalogs
 
-within : (kind : ColumnKind) (width scale : ℕ) → IsPlainAs kind scale → IsSizedAs kind width scale → scale ≤ max_scale
+within : (kind : ColumnKind) (width scale : ℕ) → IsPlainAs kind scale → IsSizedAs kind width scale → IsScaledAs kind scale
 within Integer width scale plain sized = omega (arith, plain)
 within Date width scale plain sized = omega (arith, plain)
-within Text width scale plain sized = omega (arith, plain)
+within Text width scale plain sized = plain
 within Decimal width scale plain sized = omega (arith, sized.1, sized.2)
 
 abbrev Scaled : ColumnDef → Type 0
-Scaled c = c.scale ≤ max_scale
+Scaled c = IsScaledAs c.kind c.scale
 
 columns_within : (cs : List ColumnDef) → All IsPlain cs → All IsSized cs → All Scaled cs
 columns_within [] plain sized = All-nil Scaled
