@@ -187,7 +187,7 @@ one_name a n h = by (bytes_eq a n) refl h
     by false e t = absurd cc
 
 pub use_law : UseLaw
-use_law names word b later k orderly some read =
+use_law names word b later k scoped some read =
     let stem = part_name word k in
     let s = site_of b stem in
     let steps = constants ++ later in
@@ -199,7 +199,7 @@ use_law names word b later k orderly some read =
     let one = statement_of s (name_of stem last 1) (pair_step pair.Equals at.Mark at.Mark) in
     let r1 = reach_if (is_reached r2.names one) one r2 in
     let zero = statement_of s (name_of stem last 0) (pair_step pair.Greater at.Mark at.Mark) in
-    let lead2 = later_lead names b stem last later some many (scoped_later names later orderly.scoped) all in
+    let lead2 = later_lead names b stem last later some many (scoped_later names later scoped) all in
     let lead1 = front_leads s last 1 (pair_step pair.Equals at.Mark at.Mark) r2 (omega (arith, many, some)) (first_name b.vector (b.vector ∷ [])) lead2 in
     let lead0 = front_leads s last 0 (pair_step pair.Greater at.Mark at.Mark) r1 (omega (arith, many, some)) (first_name b.vector (b.vector ∷ [])) lead1 in
     record {

@@ -101,4 +101,4 @@ some_later : (texts : List Bytes) (e : TypedExpr) → 0 < length (later_steps te
 some_later texts e = let c = lowered texts e 2 in let n = length-append c.steps (one pair.Fill c.result c.result (2 + length c.steps)).steps in omega (arith, n)
 
 pub expr_use_law : ExprUseLaw
-expr_use_law texts e word b k short = use_law (names_in e) word b (later_steps texts e) k (orderly_steps texts e short) (some_later texts e) (read_law texts e)
+expr_use_law texts e word b k = use_law (names_in e) word b (later_steps texts e) k (scope_law texts e) (some_later texts e) (read_law texts e)

@@ -43,7 +43,7 @@ RunLaw =
 -- where each step behind the first two is read or is the last, each statement is used, and the vector that they read is wanted in front of them
 abbrev pub UseLaw : Type 0
 UseLaw =
-    (names : Names) (word : Label) (b : Base) (later : List Step) (k : ℕ) → AreOrderly names (constants ++ later) → 0 < length later → AreRead (λ j. j + 1 == length (constants ++ later)) 2 later
+    (names : Names) (word : Label) (b : Base) (later : List Step) (k : ℕ) → AreScoped names 0 (constants ++ later) → 0 < length later → AreRead (λ j. j + 1 == length (constants ++ later)) 2 later
     → Uses ((steps_value word b (constants ++ later) k).told ∷ []) (b.vector ∷ []) (steps_value word b (constants ++ later) k).statements
 
 -- ---- the steps of an expression
@@ -64,5 +64,5 @@ ExprRunLaw =
 
 abbrev pub ExprUseLaw : Type 0
 ExprUseLaw =
-    (texts : List Bytes) (e : TypedExpr) (word : Label) (b : Base) (k : ℕ) → IsShort texts e
+    (texts : List Bytes) (e : TypedExpr) (word : Label) (b : Base) (k : ℕ)
     → Uses ((steps_value word b (steps_of texts e) k).told ∷ []) (b.vector ∷ []) (steps_value word b (steps_of texts e) k).statements
