@@ -33,7 +33,8 @@ use Rattle.plan_lower.specs.Rows.{rows_of, kept}
 use Rattle.plan_lower.specs.Groups.{grouped}
 use Rattle.plan_lower.specs.Lowered.{defined_rows, table_rows, from_rows, stands_on}
 use Rattle.lowered_stages.specs.Stages.{IsShaped}
-use Rattle.lowered_stages.specs.Parts.{CanValue, RowsPasses, KeptPasses, GroupedPasses, GroupedPlaces, ItemsPasses, HasColumnsOf, IsKeyOf, SamePlaces}
+use Rattle.lowered_stages.specs.Parts.{CanValue, RowsPasses, KeptPasses, GroupedPasses, GroupedPlaces, HasColumnsOf, IsKeyOf, SamePlaces}
+use Rattle.lowered_items.specs.Items.{IsAlone, ItemsAlone}
 use Rattle.lowered_premises.specs.Sources.{OverTable, HasGroupPlaces}
 use Rattle.lowered_answers.proofs.Bodies.{items_on, behind_where, behind_rows, body}
 use Rattle.lowered_answers.proofs.Runs.{RunLaws, Given, Premises, texts, few_columns, few_rows, has_same, table_made}
@@ -42,7 +43,7 @@ pub record PassLaws : Type 0 where
   pub rows_pass : RowsPasses
   pub kept_pass : KeptPasses
   pub grouped_pass : GroupedPasses
-  pub items_pass : ItemsPasses
+  pub items_pass : ItemsAlone
 
 abbrev pub PlacesLaws : Type 0
 PlacesLaws = GroupedPlaces
@@ -130,15 +131,16 @@ stands_pass h laws static g false is b k known fresh shaped = rows_pass h g is b
 
 -- ---- the whole
 
-abbrev ShownShaped : Label → Shapes → Type 0
-ShownShaped name shapes = (count : ℕ) × HasShape shapes name count (mark ∷ [])
+-- the vector that the result shows has the items and the mark alone
+abbrev pub ShownShaped : Given → Label → Shapes → Type 0
+ShownShaped g name shapes = (count : ℕ) × IsAlone shapes name count (length g.plan.items)
 
-items_pass : PassLaws → (g : Given) (c : Base) (k : ℕ) (known : Known) → IsFresh k known.vectors → StandsShaped g c known.vectors → Passes (stored g) (items_on (texts g) g.plan c) k known ShownShaped
+items_pass : PassLaws → (g : Given) (c : Base) (k : ℕ) (known : Known) → IsFresh k known.vectors → StandsShaped g c known.vectors → Passes (stored g) (items_on (texts g) g.plan c) k known (ShownShaped g)
 items_pass laws g c k known fresh (count, (few, (shaped, (items, keys)))) =
-    weaker (stored g) (items_on (texts g) g.plan c) k known (λ name shapes. HasShape shapes name count (mark ∷ [])) ShownShaped (λ name shapes still t. (count, t))
+    weaker (stored g) (items_on (texts g) g.plan c) k known (λ name shapes. IsAlone shapes name count (length g.plan.items)) (ShownShaped g) (λ name shapes still t. (count, t))
     (laws.items_pass (stored g) (texts g) (types_of g.plan.aggregates) count c g.plan.items g.plan.order few items g.can.well_formed.few_items g.can.well_formed.few_keys keys k known fresh shaped)
 
-body_passes : RunLaws → Premises → PassLaws → PlacesLaws → (g : Given) → Passes (stored g) (body g.select (texts g) g.defs g.plan) 0 at_start ShownShaped
+pub body_passes : RunLaws → Premises → PassLaws → PlacesLaws → (g : Given) → Passes (stored g) (body g.select (texts g) g.defs g.plan) 0 at_start (ShownShaped g)
 body_passes runs h laws static g =
     let m = from_rows g.select (texts g) g.defs g.plan.sources in
     let first = from_passes runs h laws g in
@@ -150,14 +152,14 @@ body_passes runs h laws static g =
     let l = (n k).next in
     let o = stands_on g.select (texts g) g.plan g.plan.grouped c in
     let third = stands_pass h laws static g g.plan.grouped refl c l second.after second.fresh second.holds in
-    behind_passes Base Label (stored g) m (behind_rows g.select (texts g) g.plan) 0 at_start (RowsShaped g) ShownShaped first
-    (behind_passes Base Label (stored g) n (behind_where g.select (texts g) g.plan) k first.after (RowsShaped g) ShownShaped second
-    (behind_passes Base Label (stored g) o (items_on (texts g) g.plan) l second.after (StandsShaped g) ShownShaped third
+    behind_passes Base Label (stored g) m (behind_rows g.select (texts g) g.plan) 0 at_start (RowsShaped g) (ShownShaped g) first
+    (behind_passes Base Label (stored g) n (behind_where g.select (texts g) g.plan) k first.after (RowsShaped g) (ShownShaped g) second
+    (behind_passes Base Label (stored g) o (items_on (texts g) g.plan) l second.after (StandsShaped g) (ShownShaped g) third
     (items_pass laws g (o l).told (o l).next third.after third.fresh third.holds)))
 
 -- ---- with its result
 
-no_limit : (k : ℕ) (shape : List Outline) → AreSmall shape → limit_from k shape ≡ None
+pub no_limit : (k : ℕ) (shape : List Outline) → AreSmall shape → limit_from k shape ≡ None
 no_limit k [] h = refl
 no_limit k (o ∷ shape) h = ap (λ (b : Bool). if b then Some (k, o.len) else limit_from (k + 1) shape) (not_past o.len (all_head (λ o. o.len ≤ 2 ^ 22) o shape h)) ∙ no_limit (k + 1) shape (all_tail (λ o. o.len ≤ 2 ^ 22) o shape h)
   where
@@ -185,7 +187,7 @@ passes_check runs h laws static g few =
     let last = known_with p.after (codes "answer") in
     let ran : check_from (stored g) all at_start ≡ Ok last =
         check_from-append (stored g) w.statements (statement (codes "answer") (op.Persist w.told) ∷ []) at_start ∙ ap (λ (r : Checked). then_check r (check_from (stored g) (statement (codes "answer") (op.Persist w.told) ∷ []))) p.passes
-        ∙ shown (stored g) p.after (codes "answer") w.told p.holds.0 (mark ∷ []) p.holds.1 (ap (λ (f : Label → Bool). f (codes "answer")) p.results) in
+        ∙ shown (stored g) p.after (codes "answer") w.told p.holds.0 (mark ∷ []) p.holds.1.shape (ap (λ (f : Label → Bool). f (codes "answer")) p.results) in
     (last.shape, (within (nat_lt 65536 (length all)) (not_more (length all) few) ∙ ap (shape_of (names_result all)) ran ∙ ap (λ (b : Bool). shape_of b (Ok last)) (names_one w.statements (codes "answer") w.told), no_limit 1 last.shape (one_more_small p.after.shape (p.small (all_none (λ o. o.len ≤ 2 ^ 22))))))
   where
     not_more : (n : ℕ) → n ≤ 65536 → nat_lt 65536 n ≡ false

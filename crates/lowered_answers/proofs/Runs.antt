@@ -37,7 +37,8 @@ use Rattle.plan_lower.specs.Rows.{rows_of, kept}
 use Rattle.plan_lower.specs.Groups.{grouped}
 use Rattle.plan_lower.specs.Lowered.{defined_rows, table_rows, source_rows, from_rows, stands_on}
 use Rattle.lowered_stages.specs.Stages.{Stands}
-use Rattle.lowered_stages.specs.Parts.{CanValue, CanValueAll, on_table, itself, HasColumnsOf, IsKeyOf, key_alike, SamePlaces, RowsRuns, KeptRuns, GroupedRuns, ItemsRuns, HoldsItems, answer_rows, ordered_items}
+use Rattle.lowered_stages.specs.Parts.{CanValue, CanValueAll, on_table, itself, HasColumnsOf, IsKeyOf, key_alike, SamePlaces, RowsRuns, KeptRuns, GroupedRuns, answer_rows, ordered_items}
+use Rattle.lowered_items.specs.Items.{ShowsItems, ItemsMade}
 use Rattle.lowered_stages.specs.Plans.{CanLower}
 use Rattle.lowered_premises.specs.Sources.{OverTable, texts_of, alone, met_rows, IsRowOf, IsGroupOf, HasGroupPlaces}
 use Rattle.lowered_premises.specs.Laws.{HasItsColumns, ColumnLaw, TableLaw, StandOnRows, RowsLaw, StandOnGroups, GroupsLaw, MemberLaws, HaveValues, PlacesLaw, HaveGroupValues, GroupPlacesLaw, where_rows, having_groups, ShapeLaws}
@@ -51,7 +52,7 @@ pub record RunLaws : Type 1 where
   pub rows_run : RowsRuns
   pub kept_run : KeptRuns
   pub grouped_run : GroupedRuns
-  pub items_run : ItemsRuns
+  pub items_run : ItemsMade
 
 pub record Premises : Type 0 where
   pub columns : ColumnLaw
@@ -83,7 +84,7 @@ store g = tables (database_of g.defs g.ts).store
 
 -- the vector that holds the rows of an answer
 abbrev pub HoldsAt : List Bytes → ℕ → List Row → Label → ℕ → Env → Type 0
-HoldsAt texts items rows name next after = (v : Vector) × (Sees after name v × HoldsItems texts items rows v)
+HoldsAt texts items rows name next after = (v : Vector) × (Sees after name v × ShowsItems texts items rows v)
 
 -- ---- the rows of FROM
 
@@ -203,15 +204,15 @@ clauses g = clauses_of_plan g.plan
 abbrev AnswerAt : Given → List Row → Label → ℕ → Env → Type 0
 AnswerAt g rows name next after = HoldsAt (texts g) (length g.plan.items) rows name next after
 
-abbrev ItemsMade : Given → List OutputRow → Label → ℕ → Env → Type 0
-ItemsMade g outputs name next after = (v : Vector) × (Sees after name v × (HoldsItems (texts g) (length g.plan.items) (answer_rows (clauses g) outputs) v × IsBelow next name))
+abbrev MadeItems : Given → List OutputRow → Label → ℕ → Env → Type 0
+MadeItems g outputs name next after = (v : Vector) × (Sees after name v × (ShowsItems (texts g) (length g.plan.items) (answer_rows (clauses g) outputs) v × IsBelow next name))
 
 items_made : {A : Type 0} (laws : RunLaws) (g : Given) (on : A → On) (len : ℕ) (rows : List A) (b : Base) (k : ℕ) (env : Env)
     → All (CanValue (types_of g.plan.aggregates) b) g.plan.items → All (CanValueAll (texts g) (types_of g.plan.aggregates) on rows) g.plan.items → All (λ key. IsKeyOf (length g.plan.items) b key.key) g.plan.order → All (λ key. key_alike (texts g) on rows key.key) g.plan.order
     → IsBelow k b.vector → Stands (texts g) b on len rows env
     → Delivers (store g) (items_on (texts g) g.plan b) k env (overs.◌>>=◌ (each (λ a. output_row (clauses g) (on a)) rows) (λ outputs. Ok (answer_rows (clauses g) outputs))) (AnswerAt g)
 items_made {A} laws g on len rows b k env values asked keys alike below stands =
-    delivers_less (store g) (items_on (texts g) g.plan b) k env (each (λ a. output_row (clauses g) (on a)) rows) (answer_rows (clauses g)) (ItemsMade g) (AnswerAt g) (λ outputs name next after e h. (h.0, (h.1.0, h.1.1.0)))
+    delivers_less (store g) (items_on (texts g) g.plan b) k env (each (λ a. output_row (clauses g) (on a)) rows) (answer_rows (clauses g)) (MadeItems g) (AnswerAt g) (λ outputs name next after e h. (h.0, (h.1.0, h.1.1.0)))
     (laws.items_run A (texts g) (types_of g.plan.aggregates) on (clauses g) len rows b k (store g) env values asked g.can.well_formed.few_items g.can.well_formed.few_keys keys alike below stands)
 
 abbrev GroupsStand : Given → List On → Base → ℕ → Env → Type 0

@@ -2,7 +2,7 @@
 use Rattle.std.proofs.Common.{◌≡◌, ℕ, ◌+◌, ◌*◌, ◌≤◌, Bool, true, false, List, [], ◌∷◌, ◌++◌, length, refl, sym, ap, ◌∙◌, subst, length-append, option_to_list, Option, Some, None, arith}
 use Rattle.std.specs.Prelude.{codes}
 use Rattle.std.specs.List.{sum_by, flat_map}
-use Rattle.std.proofs.lemmas.List.Sums.{sum_by-append}
+use Rattle.std.proofs.lemmas.List.Sums.{sum_by-append, sum_by-cons}
 use Rattle.programs.specs.declared.op.Op.TheVariants as op
 use Rattle.programs.specs.declared.op.Statement.{Statement}
 use Rattle.programs.specs.Mentions.{Label}
@@ -32,15 +32,15 @@ pub record SizeLaws : Type 0 where
 
 costs_most : NodeLaw → (es : List TypedExpr) → sum_by cost es ≤ 5 * sum_by nodes es
 costs_most law [] = omega arith
-costs_most law (e ∷ es) = omega (arith, law e, costs_most law es)
+costs_most law (e ∷ es) = omega (arith, law e, costs_most law es, sum_by-cons cost e es, sum_by-cons nodes e es)
 
 argument_is : (x : Option TypedExpr) → argument_cost x ≤ 4 * sum_by nodes (option_to_list x) + 1
 argument_is None = omega arith
-argument_is (Some e) = omega arith
+argument_is (Some e) = omega (arith, sum_by-cons nodes e [])
 
 aggregates_most : (aggregates : List Aggregate) → sum_by aggregate_cost aggregates ≤ 4 * sum_by nodes (arguments_of aggregates) + 11 * length aggregates
 aggregates_most [] = omega arith
-aggregates_most (a ∷ aggregates) = omega (arith, argument_is a.argument, aggregates_most aggregates, sum_by-append nodes (option_to_list a.argument) (arguments_of aggregates))
+aggregates_most (a ∷ aggregates) = omega (arith, argument_is a.argument, aggregates_most aggregates, sum_by-append nodes (option_to_list a.argument) (arguments_of aggregates), sum_by-cons aggregate_cost a aggregates)
 
 -- ---- part by part
 

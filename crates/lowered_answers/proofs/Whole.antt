@@ -1,17 +1,18 @@
 -- A plan's program means its answer, and passes its check.
-use Rattle.std.proofs.Common.{◌≡◌, ℕ, ◌≤◌, List, [], ◌∷◌, length, refl, sym, ap, ◌∙◌, subst, Result, Ok, Err}
+use Rattle.std.proofs.Common.{◌≡◌, ℕ, ◌≤◌, ◌^◌, List, [], ◌∷◌, length, refl, sym, ap, ◌∙◌, subst, Result, Ok, Err}
 use Rattle.std.specs.Prelude.{codes}
 use Rattle.control_vectors.specs.Controls.{Control}
 use Rattle.control_vectors.specs.Slots.{over}
 use Rattle.control_vectors.specs.declared.Over.{Over}
 use Rattle.programs.specs.Check.{check, limit_of, at_start}
 use Rattle.programs.specs.Mentions.{Label}
-use Rattle.programs.specs.Outlines.{outlines}
+use Rattle.programs.specs.Outlines.{Shapes, outlines}
 use Rattle.programs.specs.Vectors.{Vector, Env, Named, nothing, tables}
 use Rattle.programs.specs.declared.op.Statement.{Statement}
 use Rattle.sql_read.specs.declared.definition.TableDef.{TableDef}
 use Rattle.table_load.specs.Databases.{database_of}
 use Rattle.table_load.specs.Values.{Table}
+use Rattle.voodoo_ops.specs.Laws.{MeaningLaws}
 use Rattle.voodoo_ops.specs.Meaning.{meaning}
 use Rattle.query_answers.specs.Answers.{Row}
 use Rattle.rel_plan.specs.declared.plans.RelPlan.{RelPlan}
@@ -21,13 +22,15 @@ use Rattle.writer_runs.specs.Runs.{Delivers}
 use Rattle.writer_runs.specs.Uses.{ShowsNothing}
 use Rattle.plan_lower.specs.Lowered.{program, lowered}
 use Rattle.lowered_stages.specs.Plans.{CanLower}
+use Rattle.lowered_items.specs.Items.{HoldLaw}
 use Rattle.lowered_premises.specs.Laws.{SourceLaw}
 use Rattle.lowered_answers.specs.Holding.{HoldsRows}
 use Rattle.lowered_answers.specs.Laws.{PassesCheck, CheckLaw, HoldsAnswer, AnswerLaw}
 use Rattle.lowered_answers.proofs.Bodies.{body, program_is}
 use Rattle.lowered_answers.proofs.Runs.{RunLaws, Premises, Given, texts, store, HoldsAt, body_made}
 use Rattle.lowered_answers.proofs.Uses.{UseLaws, body_used}
-use Rattle.lowered_answers.proofs.Checks.{PassLaws, PlacesLaws, body_passes, passes_check}
+use Rattle.lowered_answers.proofs.Checks.{PassLaws, PlacesLaws, body_passes, no_limit, passes_check}
+use Rattle.lowered_answers.proofs.Lists.{all_none}
 use Rattle.lowered_answers.proofs.Short.{SizeLaws, program_short}
 
 pub record AllLaws : Type 1 where
@@ -38,6 +41,8 @@ pub record AllLaws : Type 1 where
   pub uses : UseLaws
   pub stands : StandLaws
   pub results : ResultLaws
+  pub meanings : MeaningLaws
+  pub holding : HoldLaw
 
 shows_nothing : AllLaws → (g : Given) → ShowsNothing (body g.select (texts g) g.defs g.plan 0).statements
 shows_nothing a g =
@@ -55,8 +60,11 @@ means a g (Err e) failed =
 means a g (Ok rows) made =
     let w = body g.select (texts g) g.defs g.plan 0 in
     let v = made.holds.0 in
+    let p = body_passes a.runs a.premises a.passes a.places g in
+    let known = a.meanings.outline (store g) w.statements at_start p.after nothing made.after (no_limit 1 p.after.shape (p.small (all_none (λ o. o.len ≤ 2 ^ 22)))) refl p.passes made.ran in
+    let h = a.holding (texts g) (length g.plan.items) rows v made.after p.after.vectors w.told p.holds.0 made.holds.1.1 made.holds.1.0 (ap (λ (f : Shapes). f w.told) known) p.holds.1 in
     subst (HoldsAnswer (texts g) (length g.plan.items) (Ok rows)) (sym (a.results.shows (store g) w.statements [] (codes "answer") w.told made.after v (shows_nothing a g) (body_used a.uses g) made.ran made.holds.1.0))
-    (record { vector = v; one = refl; fit = made.holds.1.1.fit; holds = made.holds.1.1.holds; alone = made.holds.1.1.alone })
+    (record { vector = v; one = refl; fit = h.fit; holds = h.holds; alone = h.alone })
 
 ended_is : (g : Given) → lowered g.select (database_of g.defs g.ts) g.plan ≡ ended g
 ended_is g = program_is g.select (texts g) g.defs g.plan
