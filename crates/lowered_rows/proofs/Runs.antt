@@ -29,7 +29,7 @@ use Rattle.held_rows.proofs.Upserted.{range_holds}
 use Rattle.writer_runs.specs.Runs.{Sees}
 use Rattle.writer_runs.proofs.Composed.{makes_one}
 use Rattle.lowered_rows.proofs.Making.{makes_behind, makes_less}
-use Rattle.lowered_stages.specs.Parts.{IsDatabase, HasColumnsOf, RowsRuns, on_table}
+use Rattle.lowered_stages.specs.Parts.{HasColumnsOf, RowsRuns, on_table}
 use Rattle.lowered_stages.specs.Stages as stages
 use Rattle.lowered_stages.specs.Stages.{column_told, told_of, StandsAt}
 use Rattle.lowered_rows.proofs.Loaded.{Stands, Loads, Done, told, still_loads, columns_made}
