@@ -1,0 +1,16 @@
+mod Sources
+mod Dictionaries
+mod Fits
+mod Loaded
+mod Names
+mod Standing
+mod Rows
+mod Columns
+mod Sizes
+mod PlaceNames
+mod Places
+mod Members
+mod Shapes
+mod Aggregated
+mod GroupValues
+mod Groups
