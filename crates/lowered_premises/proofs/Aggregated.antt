@@ -1,11 +1,9 @@
 -- The value of an aggregate is of its type's kind, and a text of the dictionary.
-use Rattle.std.proofs.Common.{◌≡◌, ◌∙◌, ℕ, zero, suc, ℤ, pos, ◌<◌, Bool, true, false, not, if◌then◌else◌, List, [], ◌∷◌, length, map, get_or, Option, Some, None, Result, Ok, Err, IfOk, refl, sym, ap, subst, ◌⊎◌, inl, inr, ⊎_elim, arith}
-use Rattle.std.specs.Prelude.{All, filter, fold, int_div}
-use Rattle.std.specs.List.{Contains}
+use Rattle.std.proofs.Common.{◌≡◌, ℕ, ℤ, pos, Bool, true, false, not, if◌then◌else◌, List, [], ◌∷◌, length, Option, Some, None, Ok, Err, refl, subst}
+use Rattle.std.specs.Prelude.{All, fold, int_div}
 use Rattle.std.specs.Ordering.{is_gt, is_lt}
 use Rattle.std.proofs.lemmas.Bool.{false≢true}
 use Rattle.std.proofs.lemmas.List.Elements.{All-filter, All-head, All-tail}
-use Rattle.control_vectors.specs.declared.Over.{Over}
 use Rattle.control_vectors.specs.Folds.{total_of}
 use Rattle.control_vectors.specs.Slots.{in_128_bits}
 use Rattle.query_trees.specs.declared.expr.Sign.TheVariants.{Plus}

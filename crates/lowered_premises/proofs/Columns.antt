@@ -1,7 +1,7 @@
 -- Each column that a plan over one table names is one of its source's.
-use Rattle.std.proofs.Common.{◌≡◌, ◌∙◌, ℕ, zero, suc, ◌<◌, ◌==◌, Bool, true, ◌||◌, List, [], ◌∷◌, ◌++◌, length, map, get_or, Option, Some, None, is_some, option_to_list, refl, sym, ap, subst, arith, ⊎_elim}
-use Rattle.std.specs.Prelude.{All, flat_map, slice_get}
-use Rattle.std.specs.List.{Contains, enumerate_from, list_any}
+use Rattle.std.proofs.Common.{◌≡◌, ℕ, ◌<◌, ◌==◌, true, List, [], ◌∷◌, ◌++◌, length, get_or, Option, Some, None, is_some, option_to_list, refl, sym, ap, subst, ⊎_elim}
+use Rattle.std.specs.Prelude.{All, flat_map}
+use Rattle.std.specs.List.{list_any}
 use Rattle.std.specs.Option.{ForSome}
 use Rattle.std.proofs.lemmas.Bool.{or_cases}
 use Rattle.std.proofs.lemmas.List.Elements.{All-nil, All-cons, All-contains, All-append, All-head, All-tail}
@@ -11,21 +11,18 @@ use Rattle.table_load.specs.Values.{Table}
 use Rattle.typed_trees.specs.declared.naming.Wanted.TheVariants as wanted
 use Rattle.typed_trees.specs.declared.typed.Aggregate.{Aggregate}
 use Rattle.typed_trees.specs.declared.typed.ColumnRef.{ColumnRef}
-use Rattle.typed_trees.specs.declared.typed.ColumnType.{ColumnType}
 use Rattle.typed_trees.specs.declared.typed.KeyRef.{KeyRef}
 use Rattle.typed_trees.specs.declared.typed.KeyRef.TheVariants.{Item, Column}
-use Rattle.typed_trees.specs.declared.typed.OrderKey.{OrderKey}
 use Rattle.typed_trees.specs.declared.typed.PlanSource.{PlanSource}
 use Rattle.typed_trees.specs.declared.typed.TypedExpr.{TypedExpr}
 use Rattle.typed_trees.specs.Columns.{columns_in}
 use Rattle.typed_trees.specs.Names.{names, same_column, names_column}
 use Rattle.typed_trees.specs.Types.{DataType, no_aggregate, type_of, types_of}
-use Rattle.query_types.specs.Names.{columns_of}
-use Rattle.typing_laws.specs.Laws.{AreDeclared, IsColumn, IsDeclared, IsKey, column_at}
+use Rattle.typing_laws.specs.Laws.{AreDeclared, IsColumn, IsDeclared, IsKey}
 use Rattle.expr_values.specs.Laws.{IsLowerable}
 use Rattle.rel_plan.specs.declared.plans.RelPlan.{RelPlan}
 use Rattle.rel_plan.specs.Plans.{conditions_of_sources, arguments_of, expressions}
-use Rattle.rel_plan.specs.Prunes.{pair_columns, join_columns, columns_of_joins, sorted_by, key_columns, columns_of_keys, columns_named, is_named, is_named_at}
+use Rattle.rel_plan.specs.Prunes.{pair_columns, columns_of_joins, sorted_by, key_columns, columns_of_keys, columns_named, is_named, is_named_at}
 use Rattle.plan_laws.specs.WellFormed.{places}
 use Rattle.lowered_stages.specs.Plans.{CanLower}
 use Rattle.lowered_premises.specs.Sources.{OverTable}

@@ -1,11 +1,8 @@
 -- The groups of a plan's rows: what their columns hold, and what their aggregates are.
-use Rattle.std.proofs.Common.{◌≡◌, ◌∙◌, ℕ, zero, suc, ◌<◌, Bool, true, false, ◌||◌, cond, List, [], ◌∷◌, length, map, get_or, Option, Some, None, unwrap_or, Result, Ok, Err, IfOk, refl, sym, ap, subst, ◌⊎◌, inl, inr, ⊎_elim, arith}
-use Rattle.std.specs.Prelude.{All, filter, slice_get}
-use Rattle.std.specs.List.{Contains, list_any, zip}
+use Rattle.std.proofs.Common.{◌≡◌, ◌∙◌, ℕ, Bool, true, false, cond, List, [], ◌∷◌, length, map, get_or, Option, Some, None, unwrap_or, Ok, IfOk, refl, sym, ap, subst, ◌⊎◌, inl, inr, ⊎_elim}
+use Rattle.std.specs.List.{Contains, zip}
 use Rattle.std.specs.Map.{lookup}
 use Rattle.std.specs.Ordering.{is_eq}
-use Rattle.std.proofs.lemmas.List.Elements.{Contains-get_or}
-use Rattle.control_vectors.specs.declared.Over.{Over}
 use Rattle.dict_codes.specs.Ascending.{ascending}
 use Rattle.dict_codes.proofs.AscendingLaws.{ascending-within}
 use Rattle.dict_codes.proofs.Members.{first_or_later, nothing_in}
@@ -15,19 +12,19 @@ use Rattle.typed_trees.specs.declared.typed.AggregateKind.{AggregateKind}
 use Rattle.typed_trees.specs.declared.typed.ColumnRef.{ColumnRef}
 use Rattle.typed_trees.specs.declared.typed.TypedExpr.{TypedExpr}
 use Rattle.typed_trees.specs.Names.{same_column}
-use Rattle.typed_trees.specs.Types.{DataType, aggregate_type, argument_type, folded_type, no_aggregate, type_of, with_type}
+use Rattle.typed_trees.specs.Types.{DataType, aggregate_type, argument_type, folded_type, no_aggregate, type_of}
 use Rattle.typed_trees.proofs.Inversions.{chosen}
 use Rattle.typed_values.specs.Aggregates.{aggregate_over, aggregate_value, argument_over}
 use Rattle.typed_values.specs.Values.{Valued, value}
 use Rattle.value_laws.specs.Laws.{is_of, KindLaw}
 use Rattle.query_answers.specs.Answers.{FromRow, Group, by_key, column_value, group_at, group_key, group_value, groups_of, on_row}
-use Rattle.query_answers.specs.Overs.{◌>>=◌, each}
+use Rattle.query_answers.specs.Overs.{each}
 use Rattle.query_answers.proofs.Folds.{argument_laws}
 use Rattle.query_answers.proofs.KeyOrders.{keys_total}
 use Rattle.query_answers.proofs.Lists.{kept_within}
 use Rattle.expr_values.specs.Laws.{CanStand, IsLowerable, KnownLaw, is_known}
 use Rattle.lowered_premises.proofs.Aggregated.{Good, counted_good, over_good}
-use Rattle.lowered_premises.proofs.Members.{IsMade, both_ok, each_made, mapped_from}
+use Rattle.lowered_premises.proofs.Members.{both_ok, each_made, mapped_from}
 use Rattle.lowered_premises.proofs.Names.{same_is}
 
 -- ---- a group's rows and key

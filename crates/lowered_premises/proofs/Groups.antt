@@ -1,10 +1,9 @@
 -- HAVING, items and keys of a plan stand on the groups of its rows.
-use Rattle.std.proofs.Common.{◌≡◌, ◌∙◌, ℕ, zero, suc, ◌<◌, Bool, true, List, [], ◌∷◌, length, map, get_or, Option, Some, None, Result, Ok, refl, sym, ap, subst, arith, option_to_list}
+use Rattle.std.proofs.Common.{◌≡◌, ℕ, true, List, length, map, get_or, Some, Ok, refl, subst}
 use Rattle.std.specs.Prelude.{All, slice_get}
 use Rattle.std.specs.List.{Contains}
-use Rattle.std.proofs.lemmas.List.Elements.{All-contains, All-map, Contains-get_or}
+use Rattle.std.proofs.lemmas.List.Elements.{All-contains, All-map}
 use Rattle.std.proofs.lemmas.Option.{get_or_from_slice_get, slice_get_within}
-use Rattle.control_vectors.specs.declared.Over.{Over}
 use Rattle.sql_read.specs.declared.definition.TableDef.{TableDef}
 use Rattle.sql_values.specs.Values.{Value, null}
 use Rattle.table_load.specs.ColumnTypes.{ColumnsFit}
@@ -17,14 +16,13 @@ use Rattle.typed_trees.specs.declared.typed.KeyRef.TheVariants.{Item, Column}
 use Rattle.typed_trees.specs.declared.typed.PlanSource.{PlanSource}
 use Rattle.typed_trees.specs.declared.typed.TypedExpr.{TypedExpr}
 use Rattle.typed_trees.specs.Kinds.{kind_of}
-use Rattle.typed_trees.specs.Names.{names_aggregate}
 use Rattle.typed_trees.specs.Types.{DataType, aggregate_type, no_aggregate, types_of}
 use Rattle.typed_trees.proofs.Inversions.{chosen}
 use Rattle.typed_values.specs.Aggregates.{aggregate_value}
 use Rattle.typed_values.specs.Values.{On}
 use Rattle.value_laws.specs.Laws.{is_of, KindLaw}
-use Rattle.query_answers.specs.Answers.{FromRow, Group, column_value, group_value, on_group, on_row}
-use Rattle.query_answers.specs.Overs.{◌>>=◌, each}
+use Rattle.query_answers.specs.Answers.{FromRow, Group, column_value, group_value}
+use Rattle.query_answers.specs.Overs.{each}
 use Rattle.typing_laws.specs.Laws.{AreDeclared, IsColumn, IsKey, column_at}
 use Rattle.expr_values.specs.Laws.{CanStand, IsLowerable, KnownLaw, is_known}
 use Rattle.rel_plan.specs.declared.plans.RelPlan.{RelPlan}
@@ -32,7 +30,7 @@ use Rattle.plan_laws.specs.PlanAnswers.{clauses_of_plan}
 use Rattle.plan_laws.specs.WellFormed.{places}
 use Rattle.lowered_stages.specs.Parts.{AreAlike, CanValueAll, itself, key_alike}
 use Rattle.lowered_stages.specs.Plans.{CanLower}
-use Rattle.lowered_premises.specs.Sources.{OverTable, texts_of, alone, IsRowOf, IsGroupOf}
+use Rattle.lowered_premises.specs.Sources.{OverTable, texts_of, IsRowOf, IsGroupOf}
 use Rattle.lowered_premises.specs.Laws.{GroupsLaw, StandOnGroups}
 use Rattle.lowered_premises.proofs.Aggregated.{Good}
 use Rattle.lowered_premises.proofs.Columns.{all_optional}

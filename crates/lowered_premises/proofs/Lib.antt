@@ -14,3 +14,4 @@ mod Shapes
 mod Aggregated
 mod GroupValues
 mod Groups
+mod FewColumns

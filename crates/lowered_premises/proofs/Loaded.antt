@@ -1,13 +1,11 @@
 -- The rows of loaded tables: their values are of their columns' kinds, and their texts are few.
-use Rattle.std.proofs.Common.{◌≡◌, ◌∙◌, ℕ, zero, suc, ◌+◌, ◌*◌, ◌<◌, ◌≤◌, ◌^◌, ℤ, Bool, true, List, [], ◌∷◌, ◌++◌, length, get_or, Some, refl, sym, ap, subst, arith, length-append}
+use Rattle.std.proofs.Common.{◌≡◌, ℕ, zero, suc, ◌*◌, ◌<◌, ◌≤◌, ◌^◌, ℤ, Bool, true, List, [], ◌∷◌, length, Some, refl, subst, arith, length-append}
 use Rattle.std.specs.Prelude.{All, slice_get}
 use Rattle.std.proofs.lemmas.List.Elements.{All-head, All-tail}
-use Rattle.dict_codes.specs.Dictionaries.{dictionary_of}
 use Rattle.sql_read.specs.declared.definition.ColumnDef.{ColumnDef}
 use Rattle.sql_read.specs.declared.definition.ColumnKind.{ColumnKind}
 use Rattle.sql_read.specs.declared.definition.ColumnKind.TheVariants as kind
 use Rattle.sql_read.specs.declared.definition.TableDef.{TableDef}
-use Rattle.sql_types.specs.Catalog.{findings}
 use Rattle.sql_values.specs.Values.{Value, number, text, truth, null}
 use Rattle.table_load.specs.ColumnTypes.{FitsKind, FitsColumn, FitsColumns, ColumnsFit}
 use Rattle.table_load.specs.Databases.{database_of, row_texts, rows_texts, tables_texts}

@@ -1,24 +1,18 @@
 -- What is kept of rows and groups, and what is made of them.
-use Rattle.std.proofs.Common.{◌≡◌, ◌∙◌, ℕ, zero, suc, ◌<◌, ◌+◌, ◌≤◌, ◌^◌, Bool, true, false, cond, List, [], ◌∷◌, ◌++◌, length, map, get_or, Some, Result, Ok, Err, refl, sym, ap, subst, arith, ⊎_elim}
+use Rattle.std.proofs.Common.{◌≡◌, ℕ, zero, suc, List, [], ◌∷◌, map, get_or, Some, Result, Ok, Err, refl, subst, ⊎_elim}
 use Rattle.std.specs.Prelude.{All, filter, slice_get}
 use Rattle.std.specs.List.{Contains}
 use Rattle.std.proofs.lemmas.List.Elements.{All-nil, All-cons, All-filter, All-map, All-weaker, Contains-get_or}
-use Rattle.std.proofs.lemmas.List.{length-map}
-use Rattle.std.proofs.lemmas.Option.{get_or_from_slice_get, slice_get_within}
 use Rattle.control_vectors.specs.declared.Over.{Over}
 use Rattle.dict_codes.proofs.Members.{first_or_later, here, nothing_in, there}
-use Rattle.sql_values.specs.Values.{Value}
 use Rattle.table_load.specs.Values.{Table}
 use Rattle.typed_trees.specs.declared.typed.PlanSource.{PlanSource}
-use Rattle.typed_values.specs.Values.{Valued, On}
-use Rattle.query_answers.specs.Answers.{Row, FromRow, groups_of, meets, on_group}
+use Rattle.typed_values.specs.Values.{Valued}
+use Rattle.query_answers.specs.Answers.{groups_of, meets, on_group}
 use Rattle.query_answers.specs.Overs.{◌>>=◌, each, is_met, kept}
 use Rattle.query_answers.proofs.Lists.{kept_within}
 use Rattle.plan_laws.specs.PlanAnswers.{clauses_of_plan}
-use Rattle.rel_plan.specs.declared.plans.RelPlan.{RelPlan}
-use Rattle.sql_read.specs.declared.definition.TableDef.{TableDef}
-use Rattle.lowered_stages.specs.Plans.{CanLower}
-use Rattle.lowered_premises.specs.Sources.{OverTable, alone, met_rows, IsRowOf, IsGroupOf}
+use Rattle.lowered_premises.specs.Sources.{alone, met_rows, IsRowOf, IsGroupOf}
 use Rattle.lowered_premises.specs.Laws.{MemberLaws}
 
 pub ok_same : {A : Type 0} (a b : A) → ◌≡◌ {A = Result A Over} (Ok a) (Ok b) → a ≡ b

@@ -1,25 +1,22 @@
 -- Over a base that has a place for each column of the source, or for each group column and each aggregate, expressions have values.
-use Rattle.std.proofs.Common.{◌≡◌, ◌∙◌, ℕ, zero, suc, ◌<◌, ◌≤◌, ◌==◌, Bool, true, false, not, ◌||◌, List, [], ◌∷◌, ◌++◌, length, get_or, Option, Some, None, option_to_list, refl, sym, ap, subst, arith}
-use Rattle.std.specs.Prelude.{All, flat_map, slice_get}
+use Rattle.std.proofs.Common.{◌≡◌, ◌∙◌, ℕ, ◌==◌, Bool, true, false, not, ◌||◌, List, [], ◌∷◌, length, get_or, Option, Some, refl, sym, ap, subst, arith}
+use Rattle.std.specs.Prelude.{All, slice_get}
 use Rattle.std.specs.List.{Contains, list_any}
-use Rattle.std.specs.Option.{ForSome, option_and_then}
 use Rattle.std.proofs.lemmas.Bool.{eqb-true, false≢true, ne_eqb}
 use Rattle.std.proofs.lemmas.List.Elements.{All-contains, All-head, Contains-get_or}
-use Rattle.std.proofs.lemmas.List.Folds.{Any-from_list_any, list_any-append, list_any-from_Any}
+use Rattle.std.proofs.lemmas.List.Folds.{Any-from_list_any}
 use Rattle.std.proofs.lemmas.Option.{slice_get_within}
 use Rattle.sql_read.specs.declared.definition.TableDef.{TableDef}
 use Rattle.table_load.specs.Values.{Table}
-use Rattle.typed_trees.specs.declared.naming.Wanted.TheVariants as wanted
 use Rattle.typed_trees.specs.declared.typed.Aggregate.{Aggregate}
 use Rattle.typed_trees.specs.declared.typed.ColumnRef.{ColumnRef}
 use Rattle.typed_trees.specs.declared.typed.ColumnType.{ColumnType}
 use Rattle.typed_trees.specs.declared.typed.KeyRef.{KeyRef}
 use Rattle.typed_trees.specs.declared.typed.KeyRef.TheVariants.{Item, Column}
-use Rattle.typed_trees.specs.declared.typed.OrderKey.{OrderKey}
 use Rattle.typed_trees.specs.declared.typed.PlanSource.{PlanSource}
 use Rattle.typed_trees.specs.declared.typed.TypedExpr.{TypedExpr}
 use Rattle.typed_trees.specs.Columns.{columns_in}
-use Rattle.typed_trees.specs.Names.{names, same_column, names_column, names_aggregate}
+use Rattle.typed_trees.specs.Names.{same_column}
 use Rattle.typed_trees.specs.Types.{DataType, aggregate_type, no_aggregate, types_of}
 use Rattle.typed_trees.proofs.Inversions.{chosen}
 use Rattle.query_types.specs.Names.{is_group_column}
@@ -31,7 +28,6 @@ use Rattle.rel_plan.specs.Prunes.{sorted_by, is_named}
 use Rattle.plan_laws.specs.PlanAnswers.{clauses_of_plan}
 use Rattle.plan_laws.specs.WellFormed.{places, query_of}
 use Rattle.plan_lower.specs.Sites.{Base}
-use Rattle.lowered_stages.specs.Stages.{Covers}
 use Rattle.lowered_stages.specs.Parts.{CanGroup, CanValue, HasColumnsOf, IsKeyOf}
 use Rattle.lowered_stages.specs.Plans.{CanLower}
 use Rattle.lowered_premises.specs.Sources.{OverTable, HasGroupPlaces}

@@ -1,16 +1,14 @@
 -- The conditions, arguments, items and keys of a plan stand on the rows of its table.
-use Rattle.std.proofs.Common.{◌≡◌, ◌∙◌, ℕ, zero, suc, ◌≤◌, ◌^◌, ◌==◌, Bool, true, false, not, ◌||◌, List, [], ◌∷◌, length, map, get_or, Option, Some, None, is_some, Ok, refl, sym, ap, subst, arith}
-use Rattle.std.specs.Prelude.{All, slice_get}
+use Rattle.std.proofs.Common.{◌≡◌, ℕ, ◌≤◌, ◌^◌, true, List, length, map, get_or, Option, Some, None, is_some, refl, sym, subst}
+use Rattle.std.specs.Prelude.{All}
 use Rattle.std.specs.List.{Contains}
-use Rattle.std.specs.Option.{ForSome, option_and_then}
-use Rattle.std.proofs.lemmas.Bool.{false≢true, ne_eqb}
+use Rattle.std.proofs.lemmas.Bool.{false≢true}
 use Rattle.std.proofs.lemmas.List.Elements.{All-map, Contains-get_or}
 use Rattle.sql_read.specs.declared.definition.TableDef.{TableDef}
 use Rattle.sql_values.specs.Values.{Value, null}
 use Rattle.table_load.specs.Databases.{coded}
 use Rattle.table_load.specs.ColumnTypes.{ColumnsFit}
 use Rattle.table_load.specs.Values.{Table, value_at}
-use Rattle.typed_trees.specs.declared.typed.Aggregate.{Aggregate}
 use Rattle.typed_trees.specs.declared.typed.ColumnRef.{ColumnRef}
 use Rattle.typed_trees.specs.declared.typed.ColumnType.{ColumnType}
 use Rattle.typed_trees.specs.declared.typed.KeyRef.{KeyRef}
@@ -24,8 +22,7 @@ use Rattle.typing_laws.specs.Laws.{AreDeclared, IsColumn, IsKey, column_at}
 use Rattle.expr_values.specs.Laws.{CanStand, is_known}
 use Rattle.value_laws.specs.Laws.{is_of}
 use Rattle.rel_plan.specs.declared.plans.RelPlan.{RelPlan}
-use Rattle.rel_plan.specs.Plans.{is_grouped}
-use Rattle.plan_laws.specs.WellFormed.{places, query_of}
+use Rattle.plan_laws.specs.WellFormed.{places}
 use Rattle.lowered_stages.specs.Parts.{AreAlike, CanValueAll, fits_slot, key_alike, on_table}
 use Rattle.lowered_stages.specs.Plans.{CanLower}
 use Rattle.lowered_premises.specs.Sources.{OverTable, texts_of, alone, IsRowOf}

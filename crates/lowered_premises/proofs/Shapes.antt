@@ -1,7 +1,7 @@
 -- The answer of a plan over one table, by what its parts make.
-use Rattle.std.proofs.Common.{◌≡◌, ◌∙◌, ℕ, zero, suc, ◌<◌, Bool, true, false, if◌then◌else◌, List, [], ◌∷◌, ◌++◌, length, map, get_or, Option, Some, None, Result, Ok, Err, is_err, refl, sym, ap, subst, arith}
+use Rattle.std.proofs.Common.{◌≡◌, ◌∙◌, ℕ, Bool, true, false, if◌then◌else◌, List, [], ◌∷◌, ◌++◌, map, get_or, Option, Some, None, Result, Ok, Err, is_err, refl, ap, subst}
 use Rattle.std.specs.Prelude.{All, filter, slice_get}
-use Rattle.std.specs.List.{AllByRecursion, Contains, list_all, list_any}
+use Rattle.std.specs.List.{AllByRecursion, Contains}
 use Rattle.std.proofs.lemmas.List.{get_or-map}
 use Rattle.std.proofs.lemmas.List.Elements.{All-contains, Contains-get_or, filter_agree}
 use Rattle.std.proofs.lemmas.List.Folds.{list_any_none}
@@ -17,13 +17,13 @@ use Rattle.typed_trees.specs.declared.typed.PlanSource.{PlanSource}
 use Rattle.typed_trees.specs.declared.typed.TypedExpr.{TypedExpr}
 use Rattle.typed_trees.specs.Columns.{columns_in}
 use Rattle.typed_values.specs.Intervals.{of_type}
-use Rattle.typed_values.specs.Values.{Valued, On, value}
+use Rattle.typed_values.specs.Values.{Valued, value}
 use Rattle.value_bounds.specs.Laws.{fits, holds, NeverOver}
-use Rattle.query_types.specs.Names.{columns_of, type_of_column}
+use Rattle.query_types.specs.Names.{type_of_column}
 use Rattle.typing_laws.specs.Laws.{AreDeclared, column_at}
-use Rattle.query_answers.specs.Answers.{Row, FromRow, answer, condition, from_rows, joined, meets, on_row, output_row, pairs_with, selected, source_rows}
+use Rattle.query_answers.specs.Answers.{Row, answer, condition, from_rows, joined, meets, on_row, output_row, pairs_with, selected, source_rows}
 use Rattle.query_answers.specs.Overs.{◌>>=◌, each, is_met, kept}
-use Rattle.query_answers.proofs.Lists.{filter_all, all_map}
+use Rattle.query_answers.proofs.Lists.{filter_all}
 use Rattle.query_answers.proofs.Strict.{condition_met, condition_over, kept_are, one_over}
 use Rattle.rel_plan.specs.declared.plans.RelPlan.{RelPlan}
 use Rattle.plan_laws.specs.PlanAnswers.{clauses_of_plan, plan_answer}

@@ -1,8 +1,8 @@
 -- A plan that can be lowered has one source, and its columns are those of one table.
-use Rattle.std.proofs.Common.{◌≡◌, ◌∙◌, ℕ, zero, suc, ◌<◌, List, [], ◌∷◌, length, map, get_or, Option, Some, None, refl, sym, ap, subst, arith, ⊎_elim}
-use Rattle.std.specs.Prelude.{All, slice_get}
+use Rattle.std.proofs.Common.{◌≡◌, ◌∙◌, ℕ, zero, suc, ◌<◌, List, [], ◌∷◌, length, map, Option, Some, None, refl, sym, ap, subst, arith, ⊎_elim}
+use Rattle.std.specs.Prelude.{slice_get}
 use Rattle.std.specs.Option.{ForSome, option_and_then, option_map}
-use Rattle.std.proofs.lemmas.Option.{slice_get_cases, get_or_from_slice_get}
+use Rattle.std.proofs.lemmas.Option.{slice_get_cases}
 use Rattle.sql_read.specs.declared.definition.ColumnDef.{ColumnDef}
 use Rattle.sql_read.specs.declared.definition.TableDef.{TableDef}
 use Rattle.table_load.specs.Values.{Table}

@@ -1,19 +1,18 @@
 -- Typed expressions stand on the rows of a plan's table: its columns hold values of their types, and texts of the dictionary.
-use Rattle.std.proofs.Common.{◌≡◌, ◌∙◌, ℕ, zero, suc, ◌<◌, ◌^◌, Bool, true, List, [], ◌∷◌, length, get_or, Option, Some, None, Ok, refl, sym, ap, subst, arith}
+use Rattle.std.proofs.Common.{◌≡◌, ◌∙◌, ℕ, zero, suc, ◌<◌, ◌^◌, true, List, [], length, get_or, Option, Some, Ok, sym, ap, subst, arith}
 use Rattle.std.specs.Prelude.{All, slice_get}
 use Rattle.std.specs.List.{Contains}
 use Rattle.std.proofs.lemmas.List.{get_or_past}
 use Rattle.std.proofs.lemmas.List.Elements.{All-contains}
 use Rattle.std.proofs.lemmas.List.Sums.{list_all-from_AllPass}
 use Rattle.std.proofs.lemmas.Option.{get_or_from_slice_get, slice_get_within}
-use Rattle.dict_codes.specs.Dictionaries.{dictionary_of}
 use Rattle.sql_read.specs.declared.definition.ColumnDef.{ColumnDef}
 use Rattle.sql_read.specs.declared.definition.TableDef.{TableDef}
 use Rattle.sql_types.specs.Catalog.{findings}
 use Rattle.sql_types.specs.Widths.{IsSized}
 use Rattle.sql_values.specs.Values.{Value, null}
 use Rattle.table_load.specs.ColumnTypes.{FitsColumns, ColumnsFit}
-use Rattle.table_load.specs.Databases.{coded, database_of, tables_texts}
+use Rattle.table_load.specs.Databases.{coded, database_of}
 use Rattle.table_load.specs.Values.{Table, value_at}
 use Rattle.typed_trees.specs.declared.typed.ColumnRef.{ColumnRef}
 use Rattle.typed_trees.specs.declared.typed.ColumnType.{ColumnType}

@@ -1,8 +1,7 @@
 -- What the parts of a plan's program ask of the plan and of its table: each holds of every plan that can be lowered.
 -- After SQL-92 (ISO/IEC 9075:1992), 7.3 <table expression> to 7.9 <query specification> and 13.1 <order by clause>.
-use Rattle.std.specs.Prelude.{◌≡◌, ◌≤◌, ◌^◌, ℕ, ◌<◌, ◌==◌, true, false, List, [], All, map, length, option_to_list, Result, Ok}
+use Rattle.std.specs.Prelude.{◌≡◌, ◌≤◌, ◌^◌, ◌<◌, ◌==◌, true, false, List, All, map, length, option_to_list, Result, Ok}
 use Rattle.std.specs.List.{list_any}
-use Rattle.std.specs.Option.{ForSome}
 use Rattle.control_vectors.specs.declared.Over.{Over}
 use Rattle.sql_read.specs.declared.definition.TableDef.{TableDef}
 use Rattle.table_load.specs.Values.{Table}
@@ -10,7 +9,7 @@ use Rattle.typed_trees.specs.declared.typed.ColumnRef.{ColumnRef}
 use Rattle.typed_trees.specs.declared.typed.PlanSource.{PlanSource}
 use Rattle.typed_trees.specs.Types.{no_aggregate, types_of}
 use Rattle.typed_values.specs.Values.{Valued, On}
-use Rattle.query_answers.specs.Answers.{Row, FromRow, condition, from_rows, groups_of, on_group, on_row, output_row}
+use Rattle.query_answers.specs.Answers.{FromRow, condition, from_rows, groups_of, on_group, on_row, output_row}
 use Rattle.query_answers.specs.Overs.{◌>>=◌, each, kept}
 use Rattle.rel_plan.specs.declared.plans.RelPlan.{RelPlan}
 use Rattle.rel_plan.specs.Prunes.{is_named}

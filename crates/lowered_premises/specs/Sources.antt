@@ -5,7 +5,6 @@ use Rattle.std.specs.List.{Contains, list_any}
 use Rattle.sql_read.specs.declared.definition.TableDef.{TableDef}
 use Rattle.table_load.specs.Databases.{database_of}
 use Rattle.table_load.specs.Values.{Table}
-use Rattle.typed_trees.specs.declared.typed.ColumnRef.{ColumnRef}
 use Rattle.typed_trees.specs.declared.typed.PlanSource.{PlanSource}
 use Rattle.typed_trees.specs.Names.{same_column}
 use Rattle.typed_values.specs.Values.{On}
