@@ -45,7 +45,7 @@ truth_alone Number h = absurd cc
 truth_alone Date h = absurd cc
 truth_alone Text h = absurd cc
 
-are_truths : {A : Type 0} (kinds : KindLaw) (texts : List Bytes) (at : ℕ → Option DataType) (on : A → On) (rows : List A) (es : List TypedExpr) → All (IsCondition at) es → All (CanValueAll texts at on rows) es → All (λ a. AreTruths es (on a)) rows
+are_truths : {A : Type 0} → KindLaw → (texts : List Bytes) (at : ℕ → Option DataType) (on : A → On) (rows : List A) (es : List TypedExpr) → All (IsCondition at) es → All (CanValueAll texts at on rows) es → All (λ a. AreTruths es (on a)) rows
 are_truths kinds texts at on rows es conditions stand i a here j e there =
     let x = slice_index_or es j e in
     let o = on (slice_index_or rows i a) in

@@ -1,5 +1,6 @@
 pub mod Bound
 pub mod Delivering
+pub mod Stated
 pub mod Valued
 pub mod Truths
 pub mod Selected

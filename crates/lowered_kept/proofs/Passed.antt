@@ -20,6 +20,9 @@ use Rattle.expr_steps.specs.Lowered.{Bytes}
 use Rattle.expr_lower.specs.declared.places.ColumnPlace.{ColumnPlace}
 use Rattle.expr_lower.specs.declared.places.AggregatePlace.{AggregatePlace}
 use Rattle.expr_lower.specs.Statements.{column_path, aggregate_path}
+use Rattle.expr_counts.specs.Counts.{CountLaw}
+use Rattle.expr_scopes.specs.Scopes.{names_in}
+use Rattle.expr_programs.specs.Values.{HasPlaces}
 use Rattle.program_writers.specs.Statements.{out, mark, val, run, pair, attribute, with_attribute, fold_args, fold_of, at_places}
 use Rattle.program_writers.specs.Writers.{Writer, ◌>>=◌, make, tell, through}
 use Rattle.plan_lower.specs.Sites.{Base, moved_to, value_of}
@@ -32,9 +35,10 @@ use Rattle.writer_checks.proofs.Composing.{compose_laws}
 use Rattle.writer_checks.proofs.Going.{still_has}
 use Rattle.writer_checks.proofs.Passing.{operator_laws}
 use Rattle.lowered_stages.specs.Stages.{Covers, IsShaped, paths_of}
-use Rattle.lowered_stages.specs.Parts.{CanValue, SamePlaces}
-use Rattle.lowered_kept.specs.Values.{HasNamed, ValuePasses, PassLaw}
-use Rattle.lowered_kept.specs.Kept.{ConditionsPass}
+use Rattle.lowered_stages.specs.Parts.{CanValue, SamePlaces, KeptPasses}
+use Rattle.lowered_kept.specs.Values.{ValuePasses}
+use Rattle.lowered_kept.proofs.Stated.{bare, statements_pass}
+use Rattle.lowered_kept.proofs.Valued.{all_first, all_behind}
 
 -- ---- some of a vector's paths
 
@@ -47,14 +51,6 @@ one_path shapes name len paths h p has = record {
   shallow = h.shallow;
   each = All-cons (λ q. has_name h.outline.paths q ≡ true) p [] has (All-nil (λ q. has_name h.outline.paths q ≡ true));
 }
-
-all_first : {X : Type 0} (P : X → Type 0) (xs ys : List X) → All P (xs ++ ys) → All P xs
-all_first P [] ys h = All-nil P
-all_first P (x ∷ xs) ys h = All-cons P x xs (All-head P x (xs ++ ys) h) (all_first P xs ys (All-tail P x (xs ++ ys) h))
-
-all_behind : {X : Type 0} (P : X → Type 0) (xs ys : List X) → All P (xs ++ ys) → All P ys
-all_behind P [] ys h = h
-all_behind P (x ∷ xs) ys h = all_behind P xs ys (All-tail P x (xs ++ ys) h)
 
 -- ---- the paths that an expression names
 
@@ -81,21 +77,21 @@ mark_shape : (len : ℕ) (b : Base) (shapes : Shapes) → IsShaped len b shapes 
 mark_shape len b shapes h =
     one_path shapes b.vector len (paths_of b) h mark (All-head (λ q. has_name h.outline.paths q ≡ true) mark (map (λ p. p.path) b.columns ++ map (λ p. p.path) b.aggregates) h.each)
 
-named_there : (len : ℕ) (b : Base) (e : TypedExpr) (shapes : Shapes) → Covers b e → IsShaped len b shapes → HasNamed len b e shapes
+named_there : (len : ℕ) (b : Base) (e : TypedExpr) (shapes : Shapes) → Covers b e → IsShaped len b shapes → HasPlaces (names_in e) shapes (bare b) len
 named_there len b e shapes covers h =
     let P : Label → Type 0 = λ q. has_name h.outline.paths q ≡ true in
     let cs = map (λ (p : ColumnPlace). p.path) b.columns in
     let gs = map (λ (p : AggregatePlace). p.path) b.aggregates in
     let others = All-tail P mark (cs ++ gs) h.each in
     record {
-      mark_is = mark_shape len b shapes h;
+      marked = mark_shape len b shapes h;
       columns = λ c n. one_path shapes b.vector len (paths_of b) h (column_path b.columns c) (column_there P b.columns c (all_first P cs gs others) (covers.columns c n));
       aggregates = λ m n. one_path shapes b.vector len (paths_of b) h (aggregate_path b.aggregates m) (aggregate_there P b.aggregates m (all_behind P cs gs others) (covers.aggregates m n));
     }
 
-pub value_passes : PassLaw
-value_passes pass tables texts at word len b e w small can k known fresh h =
-    pass tables texts word len b e can.few w small k known fresh (named_there len b e known.vectors can.covers h)
+pub value_passes : CountLaw → ValuePasses
+value_passes counts tables texts at word len b e w small can k known fresh h =
+    statements_pass counts tables texts word len b e can.few w small k known fresh (named_there len b e known.vectors can.covers h)
 
 -- ---- the conditions
 
@@ -111,7 +107,7 @@ module _ (tables : Shapes) (len : ℕ) (b : Base) (small : len ≤ 2 ^ 22) where
       let m = mark_shape len b known.vectors h in
       operator_laws.paired tables (codes "all") pair_kind.Equals (attribute b.vector mark) (attribute b.vector mark) len k known refl fresh small m m tt
 
-  and_passes : (values : ValuePasses) (texts : List Bytes) (at : ℕ → Option DataType) (all : Label) (e : TypedExpr) (k : ℕ) (known : Known) → IsFresh k known.vectors → IsShaped len b known.vectors → HasShape known.vectors all len (out ∷ []) → CanValue at b e
+  and_passes : ValuePasses → (texts : List Bytes) (at : ℕ → Option DataType) (all : Label) (e : TypedExpr) (k : ℕ) (known : Known) → IsFresh k known.vectors → IsShaped len b known.vectors → HasShape known.vectors all len (out ∷ []) → CanValue at b e
       → Passes tables (and_true texts b all e) k known (λ next shapes. HasShape shapes next len (out ∷ []))
   and_passes values texts at all e k known fresh h ready can =
       let Made : Label → Shapes → Type 0 = λ name shapes. HasShape shapes name len (out ∷ []) in
@@ -120,7 +116,7 @@ module _ (tables : Shapes) (len : ℕ) (b : Base) (small : len ≤ 2 ^ 22) where
       (λ x next between up new made kept.
       operator_laws.paired tables (codes "all") pair_kind.LogicalAnd (attribute all out) (attribute x out) len next between refl new small (still_has k known.vectors between.vectors all len (out ∷ []) fresh kept ready) made tt)
 
-  truths_pass : (values : ValuePasses) (texts : List Bytes) (at : ℕ → Option DataType) (es : List TypedExpr) (all : Label) (k : ℕ) (known : Known) → IsFresh k known.vectors → IsShaped len b known.vectors → HasShape known.vectors all len (out ∷ []) → All (CanValue at b) es
+  truths_pass : ValuePasses → (texts : List Bytes) (at : ℕ → Option DataType) (es : List TypedExpr) (all : Label) (k : ℕ) (known : Known) → IsFresh k known.vectors → IsShaped len b known.vectors → HasShape known.vectors all len (out ∷ []) → All (CanValue at b) es
       → Passes tables (through (and_true texts b) all es) k known (λ next shapes. HasShape shapes next len (out ∷ []))
   truths_pass values texts at [] all k known fresh h ready can = compose_laws.tell Label tables all k known (λ next shapes. HasShape shapes next len (out ∷ [])) fresh ready
   truths_pass values texts at (e ∷ es) all k known fresh h ready can =
@@ -167,7 +163,7 @@ module _ (tables : Shapes) (len : ℕ) (b : Base) (small : len ≤ 2 ^ 22) where
       (operator_laws.gather tables (codes "rows") b.vector places out len len (paths_of b) n between refl new small (still_has k known.vectors between.vectors b.vector len (paths_of b) fresh kept h) made)
       (λ rows m after more newer shaped still. compose_laws.tell Base tables (moved_to rows b) m after Kept newer (shaped, record { columns = refl; aggregates = refl })))
 
-  kept_pass : (values : ValuePasses) (select : Control) (texts : List Bytes) (at : ℕ → Option DataType) (es : List TypedExpr) (k : ℕ) (known : Known) → All (CanValue at b) es → IsFresh k known.vectors → IsShaped len b known.vectors → Passes tables (lowered.kept select texts b es) k known Kept
+  kept_pass : ValuePasses → (select : Control) (texts : List Bytes) (at : ℕ → Option DataType) (es : List TypedExpr) (k : ℕ) (known : Known) → All (CanValue at b) es → IsFresh k known.vectors → IsShaped len b known.vectors → Passes tables (lowered.kept select texts b es) k known Kept
   kept_pass values select texts at [] k known can fresh h = compose_laws.tell Base tables b k known Kept fresh (h, record { columns = refl; aggregates = refl })
   kept_pass values select texts at (e ∷ es) k known can fresh h =
       let Made : Label → Shapes → Type 0 = λ name shapes. HasShape shapes name len (out ∷ []) in
@@ -178,5 +174,5 @@ module _ (tables : Shapes) (len : ℕ) (b : Base) (small : len ≤ 2 ^ 22) where
       (λ truth m after more newer holds still.
       selected_passes select truth m after newer (still_has n between.vectors after.vectors b.vector len (paths_of b) new still here) holds))
 
-pub conditions_pass : ConditionsPass
-conditions_pass values tables select texts at len b es small can k known fresh h = kept_pass tables len b small values select texts at es k known can fresh h
+pub kept_passes : ValuePasses → KeptPasses
+kept_passes values tables select texts at len b es small can k known fresh h = kept_pass tables len b small values select texts at es k known can fresh h

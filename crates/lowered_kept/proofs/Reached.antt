@@ -20,9 +20,8 @@ use Rattle.plan_lower.specs.Rows.{everywhere, and_true, selected}
 use Rattle.writer_runs.specs.Uses.{Includes, Uses}
 use Rattle.writer_runs.proofs.Agreeing.{has_first, has_later}
 use Rattle.writer_runs.proofs.Used.{used_laws}
-use Rattle.lowered_stages.specs.Parts.{told_at}
-use Rattle.lowered_kept.specs.Values.{ValueUses}
-use Rattle.lowered_kept.specs.Kept.{ConditionsUse}
+use Rattle.lowered_stages.specs.Parts.{told_at, KeptUses}
+use Rattle.lowered_kept.proofs.Stated.{value_uses}
 
 -- names, each of which is among others
 included : (names some : List Label) → All (λ n. has_name names n ≡ true) some → Includes names some
@@ -58,8 +57,8 @@ module _ (b : Base) where
       let both = all ∷ b.vector ∷ [] in
       fewer both both (b.vector ∷ []) (s ∷ []) (included_one both b.vector (has_later all (b.vector ∷ []) b.vector (has_first b.vector []))) (used_laws.idle both s refl)
 
-  and_used : (values : ValueUses) (texts : List Bytes) (all : Label) (e : TypedExpr) (k : ℕ) → Uses (told_at (and_true texts b all e) k ∷ b.vector ∷ []) (all ∷ b.vector ∷ []) (and_true texts b all e k).statements
-  and_used values texts all e k =
+  and_used : (texts : List Bytes) (all : Label) (e : TypedExpr) (k : ℕ) → Uses (told_at (and_true texts b all e) k ∷ b.vector ∷ []) (all ∷ b.vector ∷ []) (and_true texts b all e k).statements
+  and_used texts all e k =
       let value = value_of texts (codes "where") b e k in
       let x = value.told in
       let next = numbered (codes "all") value.next in
@@ -77,15 +76,15 @@ module _ (b : Base) where
       (All-nil (λ l. has_name reads l ≡ true))))))
       read
       in
-      let first : Uses (x ∷ others) (b.vector ∷ others) value.statements = used_laws.beside (x ∷ []) (b.vector ∷ []) others value.statements (values texts (codes "where") b e k) in
+      let first : Uses (x ∷ others) (b.vector ∷ others) value.statements = used_laws.beside (x ∷ []) (b.vector ∷ []) others value.statements (value_uses texts (codes "where") b e k) in
       fewer wanted (b.vector ∷ others) others (value.statements ++ s ∷ []) (λ n h. has_later b.vector others n h) (used_laws.append wanted (x ∷ others) (b.vector ∷ others) value.statements (s ∷ []) first between)
 
-  truths_used : (values : ValueUses) (texts : List Bytes) (es : List TypedExpr) (all : Label) (k : ℕ) → Uses (told_at (through (and_true texts b) all es) k ∷ b.vector ∷ []) (all ∷ b.vector ∷ []) (through (and_true texts b) all es k).statements
-  truths_used values texts [] all k = used_laws.none (all ∷ b.vector ∷ [])
-  truths_used values texts (e ∷ es) all k =
+  truths_used : (texts : List Bytes) (es : List TypedExpr) (all : Label) (k : ℕ) → Uses (told_at (through (and_true texts b) all es) k ∷ b.vector ∷ []) (all ∷ b.vector ∷ []) (through (and_true texts b) all es k).statements
+  truths_used texts [] all k = used_laws.none (all ∷ b.vector ∷ [])
+  truths_used texts (e ∷ es) all k =
       let first = and_true texts b all e k in
       let rest = through (and_true texts b) first.told es first.next in
-      used_laws.append (rest.told ∷ b.vector ∷ []) (first.told ∷ b.vector ∷ []) (all ∷ b.vector ∷ []) first.statements rest.statements (and_used values texts all e k) (truths_used values texts es first.told first.next)
+      used_laws.append (rest.told ∷ b.vector ∷ []) (first.told ∷ b.vector ∷ []) (all ∷ b.vector ∷ []) first.statements rest.statements (and_used texts all e k) (truths_used texts es first.told first.next)
 
   selected_used : (select : Control) (all : Label) (k : ℕ) → Uses ((told_at (selected select b all) k).vector ∷ []) (all ∷ b.vector ∷ []) (selected select b all k).statements
   selected_used select all k =
@@ -104,11 +103,11 @@ module _ (b : Base) where
       fewer wanted (b.vector ∷ behind_runs) (all ∷ b.vector ∷ []) (runs ∷ pick ∷ places ∷ rows ∷ [])
       (included_two (b.vector ∷ behind_runs) all b.vector (has_later b.vector behind_runs all (has_later runs.name (all ∷ behind_pick) all (has_first all behind_pick))) (has_first b.vector behind_runs)) at_runs
 
-pub conditions_use : ConditionsUse
-conditions_use values select texts b [] k = used_laws.none (b.vector ∷ [])
-conditions_use values select texts b (e ∷ es) k =
+pub kept_uses : KeptUses
+kept_uses select texts b [] k = used_laws.none (b.vector ∷ [])
+kept_uses select texts b (e ∷ es) k =
     let first = everywhere b k in
     let truths = through (and_true texts b) first.told (e ∷ es) first.next in
     let rest = selected select b truths.told truths.next in
     used_laws.append (rest.told.vector ∷ []) (first.told ∷ b.vector ∷ []) (b.vector ∷ []) first.statements (truths.statements ++ rest.statements) (everywhere_used b k)
-    (used_laws.append (rest.told.vector ∷ []) (truths.told ∷ b.vector ∷ []) (first.told ∷ b.vector ∷ []) truths.statements rest.statements (truths_used b values texts (e ∷ es) first.told first.next) (selected_used b select truths.told truths.next))
+    (used_laws.append (rest.told.vector ∷ []) (truths.told ∷ b.vector ∷ []) (first.told ∷ b.vector ∷ []) truths.statements rest.statements (truths_used b texts (e ∷ es) first.told first.next) (selected_used b select truths.told truths.next))

@@ -18,6 +18,7 @@ use Rattle.expr_steps.specs.Lowered.{Bytes}
 use Rattle.expr_lower.specs.declared.places.ColumnPlace.{ColumnPlace}
 use Rattle.expr_lower.specs.declared.places.AggregatePlace.{AggregatePlace}
 use Rattle.expr_lower.specs.Statements.{column_path, aggregate_path}
+use Rattle.expr_counts.specs.Counts.{CountLaw}
 use Rattle.expr_values.specs.Laws.{ValueLaw, BlankLaw, value_slot}
 use Rattle.held_rows.specs.Held.{Held, Told, present, column, one}
 use Rattle.held_values.specs.Lifted.{HoldsNamed, unless_over, values_told}
@@ -26,11 +27,12 @@ use Rattle.program_writers.specs.Names.{IsBelow}
 use Rattle.program_writers.specs.Statements.{out, mark}
 use Rattle.program_writers.specs.Writers.{Writer}
 use Rattle.plan_lower.specs.Sites.{Base, value_of}
-use Rattle.writer_runs.specs.Runs.{Delivers, Sees}
+use Rattle.writer_runs.specs.Runs.{Delivers}
 use Rattle.lowered_stages.specs.Laws.{Tells}
 use Rattle.lowered_stages.specs.Stages.{Covers, column_told, aggregate_told, told_of}
-use Rattle.lowered_kept.specs.Values.{StatementsRun, ValueRuns, paths_in}
+use Rattle.lowered_kept.specs.Values.{ValueRuns}
 use Rattle.lowered_kept.proofs.Delivering.{delivers_more}
+use Rattle.lowered_kept.proofs.Stated.{paths_in, Made, statements_run}
 
 same_is : (a b : ColumnRef) → same_column a b ≡ true → a ≡ b
 same_is a b h =
@@ -39,11 +41,11 @@ same_is a b h =
 
 -- ---- what is so of two lists is so of each
 
-all_first : {X : Type 0} (P : X → Type 0) (xs ys : List X) → All P (xs ++ ys) → All P xs
+pub all_first : {X : Type 0} (P : X → Type 0) (xs ys : List X) → All P (xs ++ ys) → All P xs
 all_first P [] ys h = All-nil P
 all_first P (x ∷ xs) ys h = All-cons P x xs (All-head P x (xs ++ ys) h) (all_first P xs ys (All-tail P x (xs ++ ys) h))
 
-all_behind : {X : Type 0} (P : X → Type 0) (xs ys : List X) → All P (xs ++ ys) → All P ys
+pub all_behind : {X : Type 0} (P : X → Type 0) (xs ys : List X) → All P (xs ++ ys) → All P ys
 all_behind P [] ys h = h
 all_behind P (x ∷ xs) ys h = all_behind P xs ys (All-tail P x (xs ++ ys) h)
 
@@ -102,17 +104,16 @@ pub delivers_unless : {A X : Type 0} (store : Env) (m : Writer A) (k : ℕ) (env
 delivers_unless store m k env (Ok x) slots P h = h
 delivers_unless store m k env (Err e) slots P h = h
 
-pub value_runs : ValueLaw → BlankLaw → StatementsRun → ValueRuns
-value_runs values blanks run A texts at on held store env b word e k w below st can stand =
+pub value_runs : ValueLaw → BlankLaw → CountLaw → ValueRuns
+value_runs values blanks counts A texts at on held store env b word e k w below st can stand =
     let v = st.vector in
     let m = value_of texts word b e in
     let r = each (λ a. value (on a) e) (present held) in
     let slots = column (values_told texts on e) held in
-    let Made : List Slot → Label → ℕ → Env → Type 0 = λ slots name next after. Sees after name (vectors.column out v.len slots) × IsBelow next name in
     let Wanted : Label → ℕ → Env → Type 0 = λ name next after. IsBelow next name × Tells held (λ a. value_slot texts (value (on a) e)) name after in
     let named = named_held texts on held v b e st.holds.len st.holds.each can.covers in
     let lifted = lift_laws.slots values blanks texts at v (paths_in b) held on e can.lowerable stand named in
-    let ran = subst (λ (s : Result (List Slot) Over). Delivers store m k env s Made) lifted (run texts store env b word e k v can.few w below st.sees) in
-    delivers_more store m k env r (λ x. Made slots) (λ x. Wanted)
+    let ran = subst (λ (s : Result (List Slot) Over). Delivers store m k env s (Made v.len)) lifted (statements_run counts texts store env b word e k v can.few w below st.sees) in
+    delivers_more store m k env r (λ x. Made v.len slots) (λ x. Wanted)
     (λ x name next after made. (made.1, record { vector = vectors.column out v.len slots; sees = made.0; len = st.holds.len; slots = refl }))
-    (delivers_unless store m k env r slots Made ran)
+    (delivers_unless store m k env r slots (Made v.len) ran)

@@ -15,8 +15,7 @@ use Rattle.plan_lower.specs.Sites.{Base}
 use Rattle.plan_lower.specs.Rows as rows
 use Rattle.writer_runs.specs.Runs.{Delivers}
 use Rattle.lowered_stages.specs.Stages.{Stands}
-use Rattle.lowered_stages.specs.Parts.{CanValue, CanValueAll, SamePlaces, KeptPasses, KeptUses}
-use Rattle.lowered_kept.specs.Values.{ValuePasses, ValueUses}
+use Rattle.lowered_stages.specs.Parts.{CanValue, CanValueAll, SamePlaces}
 
 -- it is so for conditions alone: a slot of any other value tells nothing of a truth
 abbrev pub ConditionsRun : Type 1
@@ -24,9 +23,3 @@ ConditionsRun =
     (A : Type 0) (select : Control) (texts : List Bytes) (at : ℕ → Option DataType) (on : A → On) (len : ℕ) (held : List A) (b : Base) (es : List TypedExpr) (k : ℕ) (store env : Env)
     → All (IsCondition at) es → All (CanValue at b) es → All (CanValueAll texts at on held) es → IsBelow k b.vector → Stands texts b on len held env
     → Delivers store (rows.kept select texts b es) k env (kept (λ a. condition es (on a)) held) (λ left c next after. Stands texts c on len left after × (IsBelow next c.vector × SamePlaces b c))
-
-abbrev pub ConditionsPass : Type 0
-ConditionsPass = ValuePasses → KeptPasses
-
-abbrev pub ConditionsUse : Type 0
-ConditionsUse = ValueUses → KeptUses
