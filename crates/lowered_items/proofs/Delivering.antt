@@ -3,19 +3,12 @@ use Rattle.std.proofs.Common.{◌≡◌, ℕ, ◌≤◌, is_ok, Result, Ok, Err}
 use Rattle.control_vectors.specs.declared.Over.{Over}
 use Rattle.programs.specs.Vectors.{Env}
 use Rattle.program_writers.specs.Writers.{Writer, ◌>>=◌}
-use Rattle.writer_runs.specs.Runs.{Makes, Delivers}
+use Rattle.writer_runs.specs.Runs.{Delivers}
 use Rattle.writer_runs.proofs.Composed.{makes_bind, fails_first, fails_behind}
-use Rattle.lowered_items.proofs.Bound.{bound}
+use Rattle.lowered_kept.proofs.Bound.{bound}
 use Rattle.lowered_items.proofs.Parts.{Kept}
 
 module _ {A B : Type 0} (store : Env) (m : Writer A) (f : A → Writer B) (k : ℕ) (env : Env) where
-  -- a part that delivers, and one behind it that makes what it tells
-  pub delivers_makes : {X : Type 0} (r : Result X Over) (P : X → A → ℕ → Env → Type 0) (Q : X → B → ℕ → Env → Type 0) → Delivers store m k env r P
-      → ((x : X) (a : A) (next : ℕ) (between : Env) → k ≤ next → P x a next between → Kept k env between → Makes store (f a) next between (Q x))
-      → Delivers store (m >>= f) k env r Q
-  delivers_makes (Ok x) P Q made more = makes_bind A B store m f k env (P x) (Q x) made (more x)
-  delivers_makes (Err e) P Q failed more = fails_first A B store m f k env failed
-
   -- one behind another, where both tell the same of all values
   pub delivers_both : {X Y Z : Type 0} (r : Result X Over) (s : Result Y Over) (join : X → Y → Z) (P : A → ℕ → Env → Type 0) (Q : B → ℕ → Env → Type 0) → Delivers store m k env r (λ x. P)
       → ((a : A) (next : ℕ) (between : Env) → k ≤ next → P a next between → Kept k env between → Delivers store (f a) next between s (λ y. Q))

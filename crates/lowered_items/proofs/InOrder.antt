@@ -1,7 +1,6 @@
 -- The items' vector, with its rows in the order of their keys.
-use Rattle.std.proofs.Common.{◌≡◌, ◌∙◌, ℕ, zero, suc, ◌+◌, ◌-◌, ◌≤◌, ◌<◌, ◌^◌, Bool, true, false, cond, ◌||◌, ◌==◌, List, [], ◌∷◌, ◌++◌, map, replicate, length, refl, sym, ap, arith, codes, eqb-true, if◌then◌else◌, Option, Some, None, slice_get, length-append}
-use Rattle.std.specs.List.{All, list_any, enumerate_from}
-use Rattle.std.proofs.lemmas.Bool.{and_parts}
+use Rattle.std.proofs.Common.{◌≡◌, ◌∙◌, ℕ, zero, suc, ◌+◌, ◌-◌, ◌≤◌, ◌<◌, ◌^◌, Bool, true, false, cond, List, [], ◌∷◌, ◌++◌, map, replicate, length, refl, sym, ap, arith, codes, Option, Some, None, slice_get, length-append}
+use Rattle.std.specs.List.{All, enumerate_from}
 use Rattle.std.proofs.lemmas.List.{length-map, length-replicate}
 use Rattle.std.proofs.lemmas.List.Elements.{All-nil, All-cons, All-head, All-tail}
 use Rattle.control_vectors.specs.Slots.{Slot}
@@ -11,18 +10,14 @@ use Rattle.programs.specs.Vectors.{Vector, Env, slots_of}
 use Rattle.slot_moves.specs.Moves.{gathered}
 use Rattle.sort_order.specs.Orders.{inserted, sorted_by, ordered}
 use Rattle.table_load.specs.Databases.{coded}
-use Rattle.typed_trees.specs.declared.typed.ColumnRef.{ColumnRef}
 use Rattle.typed_trees.specs.declared.typed.KeyRef.{KeyRef}
 use Rattle.typed_trees.specs.declared.typed.KeyRef.TheVariants.{Item, Column}
 use Rattle.typed_trees.specs.declared.typed.OrderKey.{OrderKey}
 use Rattle.typed_trees.specs.declared.typed.TypedExpr.{TypedExpr}
-use Rattle.typed_trees.specs.Names.{same_column}
 use Rattle.typed_values.specs.Values.{On}
 use Rattle.voodoo_ops.specs.Moves.{gather, order}
 use Rattle.voodoo_ops.specs.Moves as moves
 use Rattle.expr_steps.specs.Lowered.{Bytes}
-use Rattle.expr_lower.specs.declared.places.ColumnPlace.{ColumnPlace}
-use Rattle.expr_lower.specs.Statements.{column_path}
 use Rattle.held_rows.specs.Held.{Held, Told, Holds, present, column, one, packed}
 use Rattle.held_rows.specs.Laws.{Key, row_before}
 use Rattle.held_rows.specs.Laws as held_laws
@@ -40,6 +35,7 @@ use Rattle.writer_runs.specs.Runs.{Makes}
 use Rattle.writer_runs.proofs.Composed.{makes_tell, makes_bind}
 use Rattle.lowered_stages.specs.Stages.{StandsAt, column_told, aggregate_told}
 use Rattle.lowered_stages.specs.Parts.{IsKeyOf}
+use Rattle.lowered_kept.proofs.Valued.{IsHeld, column_held}
 use Rattle.lowered_items.proofs.Holding.{Holding, Held_by, holding_later, upsert_holding, mark_holding}
 use Rattle.lowered_items.proofs.ItemsHeld.{asked, item_told, items_told, stands_later}
 use Rattle.lowered_items.proofs.Lists.{more, more_old, more_new, EachFrom, each_at}
@@ -72,33 +68,11 @@ packed_long {A} n rows h =
     let others : List (Option A) = replicate (n - length rows) nobody in
     omega (arith, h, length-append (map some rows) others, length-map rows some, length-replicate (n - length rows) nobody)
 
--- ---- the columns of a base
-
-same_is : (a b : ColumnRef) → same_column a b ≡ true → a ≡ b
-same_is a b h =
-    let both = and_parts (a.source == b.source) (a.column == b.column) h in
-    (λ i. record { source = eqb-true a.source b.source both.0 i; column = eqb-true a.column b.column both.1 i })
+-- ---- what is so of two lists is so of the first
 
 all_first : {X : Type 0} (P : X → Type 0) (xs ys : List X) → All P (xs ++ ys) → All P xs
 all_first P [] ys h = All-nil P
 all_first P (x ∷ xs) ys h = All-cons P x xs (All-head P x (xs ++ ys) h) (all_first P xs ys (All-tail P x (xs ++ ys) h))
-
-module _ {A : Type 0} (texts : List Bytes) (on : A → On) (held : Held A) (v : Vector) where
-  abbrev IsHeld : Told A → Type 0
-  IsHeld t = slots_of v.attributes t.0 ≡ column t.1 held
-
-  column_held : (places : List ColumnPlace) (c : ColumnRef) → All IsHeld (map (column_told texts on) places) → list_any (λ p. same_column p.column c) places ≡ true
-      → slots_of v.attributes (column_path places c) ≡ column (λ a. coded texts ((on a).column c)) held
-  column_held [] c h found = absurd cc
-  column_held (p ∷ places) c h found =
-      by (same_column p.column c) refl (All-head IsHeld (column_told texts on p) (map (column_told texts on) places) h)
-      (λ f. column_held places c (All-tail IsHeld (column_told texts on p) (map (column_told texts on) places) h) f) found
-    where
-      by : (t : Bool) → same_column p.column c ≡ t → slots_of v.attributes p.path ≡ column (λ a. coded texts ((on a).column p.column)) held
-          → (list_any (λ q. same_column q.column c) places ≡ true → slots_of v.attributes (column_path places c) ≡ column (λ a. coded texts ((on a).column c)) held)
-          → (t || list_any (λ q. same_column q.column c) places) ≡ true → slots_of v.attributes (if t then p.path else column_path places c) ≡ column (λ a. coded texts ((on a).column c)) held
-      by true is first rest f = first ∙ ap (λ (d : ColumnRef). column (λ a. coded texts ((on a).column d)) held) (same_is p.column c is)
-      by false is first rest f = rest f
 
 -- ---- keys
 

@@ -29,9 +29,10 @@ use Rattle.writer_runs.proofs.Composed.{makes_tell}
 use Rattle.lowered_stages.specs.Laws.{Tells}
 use Rattle.lowered_stages.specs.Stages.{StandsAt, column_told, aggregate_told}
 use Rattle.lowered_stages.specs.Parts.{CanValue, CanValueAll}
-use Rattle.lowered_items.specs.Values.{ValueRuns}
-use Rattle.lowered_items.proofs.Bound.{bound}
-use Rattle.lowered_items.proofs.Delivering.{delivers_makes, delivers_both}
+use Rattle.lowered_kept.specs.Values.{ValueRuns}
+use Rattle.lowered_kept.proofs.Delivering.{delivers_makes}
+use Rattle.lowered_kept.proofs.Bound.{bound}
+use Rattle.lowered_items.proofs.Delivering.{delivers_both}
 use Rattle.lowered_items.proofs.Holding.{Holding, Held_by, holding_later, upsert_holding, mark_holding}
 use Rattle.lowered_items.proofs.Lists.{more, ok_each, all_turned}
 use Rattle.lowered_items.proofs.Parts.{Kept, delivers_after}

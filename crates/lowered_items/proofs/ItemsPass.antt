@@ -37,7 +37,7 @@ use Rattle.writer_checks.proofs.Passing.{operator_laws}
 use Rattle.writer_checks.proofs.Routes.{path_laws}
 use Rattle.lowered_stages.specs.Stages.{IsShaped, paths_of}
 use Rattle.lowered_stages.specs.Parts.{CanValue, IsKeyOf, ordered_items}
-use Rattle.lowered_items.specs.Values.{ValuePasses}
+use Rattle.lowered_kept.specs.Values.{ValuePasses}
 use Rattle.lowered_items.specs.Items.{IsAlone, ItemsAlone, ItemsPass}
 use Rattle.lowered_items.proofs.Alone.{Exactly, still_exactly, all_more, or_right, exact_upsert, exact_gather}
 use Rattle.lowered_items.proofs.InOrder.{stands_there}

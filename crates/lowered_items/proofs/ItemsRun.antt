@@ -26,7 +26,8 @@ use Rattle.plan_lower.specs.Items.{item_path, items_of, in_order}
 use Rattle.writer_runs.specs.Runs.{Delivers, Sees}
 use Rattle.lowered_stages.specs.Parts.{CanValueAll, key_alike, ordered_items, answer_rows}
 use Rattle.lowered_items.specs.Items.{ShowsItems, ItemsRun}
-use Rattle.lowered_items.proofs.Delivering.{delivers_makes, delivers_alike}
+use Rattle.lowered_items.proofs.Delivering.{delivers_alike}
+use Rattle.lowered_kept.proofs.Delivering.{delivers_makes}
 use Rattle.lowered_items.proofs.Holding.{Held_by}
 use Rattle.lowered_items.proofs.InOrder.{Rows_by, row_key, in_order_makes, stands_there, sorted_many, present_few, packed_long}
 use Rattle.lowered_items.proofs.ItemsHeld.{asked, item_told, items_told, items_held, ok_alike, stands_later}

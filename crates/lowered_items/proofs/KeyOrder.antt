@@ -25,7 +25,7 @@ use Rattle.held_rows.specs.Laws.{rows_cmp, row_before}
 use Rattle.plan_lower.specs.Sites.{Base}
 use Rattle.lowered_stages.specs.Parts.{CanValue, CanValueAll, IsKeyOf, key_alike}
 use Rattle.lowered_items.specs.Items.{CodesCompare}
-use Rattle.lowered_items.proofs.Bound.{bound}
+use Rattle.lowered_kept.proofs.Bound.{bound}
 use Rattle.lowered_items.proofs.InOrder.{item_slot, key_slot, row_key, stands_there}
 use Rattle.lowered_items.proofs.Lists.{Pairs, Gave, each_pairs}
 

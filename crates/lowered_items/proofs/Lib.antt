@@ -1,6 +1,5 @@
 pub mod Used
 pub mod ItemsUsed
-pub mod Bound
 pub mod Parts
 pub mod Delivering
 pub mod Alone

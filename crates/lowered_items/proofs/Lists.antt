@@ -9,7 +9,7 @@ use Rattle.control_vectors.specs.declared.Over.{Over}
 use Rattle.sort_order.specs.Orders.{inserted, sorted_by}
 use Rattle.query_answers.specs.Overs.{each}
 use Rattle.held_rows.specs.Held.{column, packed}
-use Rattle.lowered_items.proofs.Bound.{bound}
+use Rattle.lowered_kept.proofs.Bound.{bound}
 
 -- ---- one more for each
 

@@ -30,7 +30,7 @@ use Rattle.writer_checks.specs.Checks.{HasShape, PassesFrom}
 use Rattle.writer_runs.specs.Runs.{Delivers, Sees}
 use Rattle.lowered_stages.specs.Stages.{Stands, IsShaped}
 use Rattle.lowered_stages.specs.Parts.{CanValue, CanValueAll, IsKeyOf, key_alike, ordered_items, answer_rows, HoldsItems, ItemsPasses, ItemsUses}
-use Rattle.lowered_items.specs.Values.{ValueRuns, ValuePasses, ValueUses}
+use Rattle.lowered_kept.specs.Values.{ValueRuns, ValuePasses, ValueUses}
 
 -- values of one kind, whose texts are known, compare as their slots do
 abbrev pub CodesCompare : Type 0
