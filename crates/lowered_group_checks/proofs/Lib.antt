@@ -1,0 +1,3 @@
+pub mod Used
+pub mod FoldsUsed
+pub mod GroupsUsed

@@ -1,0 +1,2 @@
+//! The checks of a plan's groups, and that each of their statements is used.
+#![tactic(auto)]

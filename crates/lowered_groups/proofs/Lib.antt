@@ -1,0 +1,15 @@
+pub mod Parts
+pub mod Cells
+pub mod Columns
+pub mod Marks
+pub mod Folds
+pub mod Aggregated
+pub mod Bases
+pub mod Values
+pub mod Aggregates
+pub mod AsOne
+pub mod SortedRows
+pub mod RunSlots
+pub mod ByColumns
+pub mod Grouped
+pub mod GroupsMade
