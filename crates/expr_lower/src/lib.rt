@@ -4,5 +4,5 @@
 mod places;
 mod statements;
 
-pub use places::Places;
-pub use statements::expr_statements;
+pub use places::{AggregatePlace, ColumnPlace, Places};
+pub use statements::{column_path, expr_statements, value_name};

@@ -19,7 +19,7 @@ fn out_path(alloc: Global) -> Result<Path, NoMemory>
 }
 
 /// The path of a column.
-fn column_path(alloc: Global, columns: &[ColumnPlace], column: ColumnRef) -> Result<Path, NoMemory>
+pub fn column_path(alloc: Global, columns: &[ColumnPlace], column: ColumnRef) -> Result<Path, NoMemory>
     ensures { IfOk result (λ p. p ≡ spec.column_path columns.now column) }
 {
     for place in columns {
@@ -54,7 +54,8 @@ fn numbered(alloc: Global, stem: &Name, k: usize) -> Result<Name, NoMemory>
     Ok(Name::from_string(text))
 }
 
-fn value_name(alloc: Global, stem: &Name) -> Result<Name, NoMemory>
+/// The name of the vector that holds an expression's value.
+pub fn value_name(alloc: Global, stem: &Name) -> Result<Name, NoMemory>
     ensures { IfOk result (λ n. n ≡ spec.value_name stem.now) }
 {
     let stem = stem.text();

@@ -1,6 +1,6 @@
 -- Groups of rows, with the values of their aggregates.
 -- After SQL-92 (ISO/IEC 9075:1992), 7.7 <group by clause> and 6.5 <set function specification>; folds over runs are those of Voodoo, PVLDB 9(14), 2016, section 2.2.
-use Rattle.std.specs.Prelude.{ℕ, pos, List, [], ◌∷◌, ◌++◌, map, codes, false, Option, Some, None}
+use Rattle.std.specs.Prelude.{ℕ, List, [], ◌∷◌, ◌++◌, map, codes, false, Option, Some, None}
 use Rattle.std.specs.Fmt.{decimal}
 use Rattle.std.specs.List.{enumerate_from}
 use Rattle.control_vectors.specs.Controls.{Control}
@@ -19,7 +19,7 @@ use Rattle.typed_trees.specs.declared.typed.TypedExpr.{TypedExpr}
 use Rattle.expr_steps.specs.Lowered.{Bytes}
 use Rattle.program_writers.specs.Writers.{Writer, tell, ◌>>=◌, through, make}
 use Rattle.program_writers.specs.Statements.{out, mark, val, run, zeros, ones, attribute, pair, with_attribute, fold_args, fold_of, at_places}
-use Rattle.plan_lower.specs.Sites.{Base, base, marked_alone, moved_to, path_in, with_column, with_aggregate, value_of}
+use Rattle.plan_lower.specs.Sites.{Base, marked_alone, moved_to, path_in, with_column, with_aggregate, value_of}
 use Rattle.plan_lower.specs.Rows.{everywhere}
 
 -- what aggregates are folded over: the rows, a 0 at each of them, their runs, the place that each fold is gathered from where it is not left where its
