@@ -1,6 +1,6 @@
 -- What the parts that write groups do for the program's check, and for the statements that are used.
 -- After SQL-92 (ISO/IEC 9075:1992), 7.7 <group by clause> and 6.5 <set function specification>.
-use Rattle.std.specs.Prelude.{◌≡◌, ℕ, ◌≤◌, ◌^◌, true, List, [], ◌∷◌, Option}
+use Rattle.std.specs.Prelude.{◌≡◌, ℕ, ◌≤◌, ◌^◌, true, List, [], ◌∷◌, length, Option}
 use Rattle.programs.specs.Mentions.{Label}
 use Rattle.programs.specs.Outlines.{Shapes}
 use Rattle.typed_trees.specs.declared.typed.Aggregate.{Aggregate}
@@ -16,7 +16,7 @@ use Rattle.plan_lower.specs.Groups.{grouped}
 use Rattle.writer_checks.specs.Checks.{PassesFrom, HasShape}
 use Rattle.writer_runs.specs.Uses.{Uses}
 use Rattle.lowered_stages.specs.Stages.{IsShaped}
-use Rattle.lowered_stages.specs.Parts.{CanValue, told_at}
+use Rattle.lowered_stages.specs.Parts.{CanGroup, CanValue, told_at}
 
 -- ---- the value of an expression
 
@@ -37,3 +37,16 @@ abbrev pub GroupsUsed : Type 0
 GroupsUsed =
     (texts : List Bytes) (b : Base) (columns : List ColumnRef) (aggregates : List Aggregate) (k : ℕ) → is_grouped columns aggregates ≡ true
     → Uses ((told_at (grouped texts b columns aggregates) k).vector ∷ []) (b.vector ∷ []) (grouped texts b columns aggregates k).statements
+
+-- the groups' vector is as long as the rows', or has one place; no more aggregates than a query has
+abbrev pub GroupsPass : Type 0
+GroupsPass =
+    (tables : Shapes) (texts : List Bytes) (len : ℕ) (b : Base) (columns : List ColumnRef) (aggregates : List Aggregate) → len ≤ 2 ^ 22 → CanGroup b columns aggregates → length aggregates ≤ 512
+    → PassesFrom tables (grouped texts b columns aggregates) (IsShaped len b) (λ c shapes. (count : ℕ) × ((count ≤ 2 ^ 22) × IsShaped count c shapes))
+
+-- what values do, groups do
+abbrev pub UseLaw : Type 0
+UseLaw = ValueUses → GroupsUsed
+
+abbrev pub PassLaw : Type 0
+PassLaw = ValuePasses → GroupsPass
