@@ -1,5 +1,5 @@
 -- Folds of a value pass the check.
-use Rattle.std.proofs.Common.{◌≡◌, ◌∙◌, ℕ, ◌+◌, ◌<◌, ◌≤◌, ◌^◌, true, false, List, [], ◌∷◌, refl, sym, subst, arith, codes, Option, Some, None}
+use Rattle.std.proofs.Common.{◌≡◌, ℕ, ◌≤◌, ◌^◌, true, false, [], ◌∷◌, refl, subst, arith, codes, Option, Some, None}
 use Rattle.std.proofs.lemmas.List.Elements.{All-nil, All-cons}
 use Rattle.control_vectors.specs.declared.PairKind.TheVariants as pair
 use Rattle.key_paths.specs.Substructures.{is_at_or_below}
@@ -12,7 +12,7 @@ use Rattle.typed_trees.specs.declared.typed.AggregateKind.{AggregateKind}
 use Rattle.typed_trees.specs.declared.typed.AggregateKind.TheVariants as of
 use Rattle.program_writers.specs.Statements.{out, val, run, attribute, with_attribute, fold_args, fold_of, at_places}
 use Rattle.program_writers.specs.Statements as statements
-use Rattle.program_writers.specs.Writers.{Writer, tell, ◌>>=◌, make}
+use Rattle.program_writers.specs.Writers.{◌>>=◌, make}
 use Rattle.plan_lower.specs.Groups.{Folding, collected, folded, is_there, counted, count as count_of, mean, aggregated}
 use Rattle.writer_checks.specs.Checks.{IsFresh, HasShape, Passes}
 use Rattle.writer_checks.specs.Laws.{IsAttribute, Shaped}
@@ -76,17 +76,17 @@ module _ (tables : Shapes) (len count : ℕ) (f : Folding) where
       (path_laws.none_above_one known.vectors f.runs (codes "val") h.path len [] refl h.runs)
       (All-cons (λ r. is_at_or_below r val ≡ false) (46 ∷ h.path) [] h.beside (All-nil (λ r. is_at_or_below r val ≡ false))))
       (λ values next between new shape stays.
-        let later = folding_still len count f k known.vectors between.vectors fresh stays h in
-        then_passes tables (make (codes "fold") (fold_of kind (fold_args values))) (collected f.first) next between (IsColumn len) (IsColumn count)
-        (operator_laws.fold tables (codes "fold") values kind (46 ∷ h.path) len next between refl new h.few h.below shape)
-        (λ fold last after fresher column stay. collected_passes tables len count f.first fold last after h.small fresher (first_still len count f.first next between.vectors after.vectors new stay later.first) column))
+      let later = folding_still len count f k known.vectors between.vectors fresh stays h in
+      then_passes tables (make (codes "fold") (fold_of kind (fold_args values))) (collected f.first) next between (IsColumn len) (IsColumn count)
+      (operator_laws.fold tables (codes "fold") values kind (46 ∷ h.path) len next between refl new h.few h.below shape)
+      (λ fold last after fresher column stay. collected_passes tables len count f.first fold last after h.small fresher (first_still len count f.first next between.vectors after.vectors new stay later.first) column))
 
   is_there_passes : (value : Label) (k : ℕ) (known : Known) → IsFresh k known.vectors → FoldingShaped len count f known.vectors → IsColumn len value known.vectors → Passes tables (is_there f value) k known (IsColumn len)
   is_there_passes value k known fresh h v =
       then_passes tables (make (codes "same") (statements.pair pair.Equals (attribute value out) (attribute value out))) (λ same. make (codes "there") (statements.pair pair.Fill (attribute same out) (attribute f.nought out))) k known (IsColumn len) (IsColumn len)
       (pair_passes tables (codes "same") pair.Equals value out value out len k known refl fresh h.few v v)
       (λ same next between new shape stays.
-        pair_passes tables (codes "there") pair.Fill same out f.nought out len next between refl new h.few shape (still k known.vectors between.vectors f.nought len (out ∷ []) fresh stays h.nought))
+      pair_passes tables (codes "there") pair.Fill same out f.nought out len next between refl new h.few shape (still k known.vectors between.vectors f.nought len (out ∷ []) fresh stays h.nought))
 
   counted_passes : (value : Label) (k : ℕ) (known : Known) → IsFresh k known.vectors → FoldingShaped len count f known.vectors → IsColumn len value known.vectors → Passes tables (counted f value) k known (IsColumn count)
   counted_passes value k known fresh h v =
@@ -97,16 +97,16 @@ module _ (tables : Shapes) (len count : ℕ) (f : Folding) where
   count_passes value k known fresh h v =
       then_passes tables (counted f value) (λ n. make (codes "count") (statements.pair pair.Fill (attribute n out) (attribute f.zero out))) k known (IsColumn count) (IsColumn count) (counted_passes value k known fresh h v)
       (λ n next between new shape stays.
-        pair_passes tables (codes "count") pair.Fill n out f.zero out count next between refl new h.small shape (still k known.vectors between.vectors f.zero count (out ∷ []) fresh stays h.zero))
+      pair_passes tables (codes "count") pair.Fill n out f.zero out count next between refl new h.small shape (still k known.vectors between.vectors f.zero count (out ∷ []) fresh stays h.zero))
 
   mean_passes : (value : Label) (k : ℕ) (known : Known) → IsFresh k known.vectors → FoldingShaped len count f known.vectors → IsColumn len value known.vectors → Passes tables (mean f value) k known (IsColumn count)
   mean_passes value k known fresh h v =
       then_passes tables (folded f fold.Sum value) (λ total. counted f value >>= λ n. make (codes "mean") (statements.pair pair.Divide (attribute total out) (attribute n out))) k known (IsColumn count) (IsColumn count) (folded_passes fold.Sum value k known fresh h v)
       (λ total next between new shape stays.
-        then_passes tables (counted f value) (λ n. make (codes "mean") (statements.pair pair.Divide (attribute total out) (attribute n out))) next between (IsColumn count) (IsColumn count)
-        (counted_passes value next between new (folding_still len count f k known.vectors between.vectors fresh stays h) (still k known.vectors between.vectors value len (out ∷ []) fresh stays v))
-        (λ n last after fresher column stay.
-          pair_passes tables (codes "mean") pair.Divide total out n out count last after refl fresher h.small (still next between.vectors after.vectors total count (out ∷ []) new stay shape) column))
+      then_passes tables (counted f value) (λ n. make (codes "mean") (statements.pair pair.Divide (attribute total out) (attribute n out))) next between (IsColumn count) (IsColumn count)
+      (counted_passes value next between new (folding_still len count f k known.vectors between.vectors fresh stays h) (still k known.vectors between.vectors value len (out ∷ []) fresh stays v))
+      (λ n last after fresher column stay.
+      pair_passes tables (codes "mean") pair.Divide total out n out count last after refl fresher h.small (still next between.vectors after.vectors total count (out ∷ []) new stay shape) column))
 
   pub aggregated_passes : (kind : AggregateKind) (value : Label) (k : ℕ) (known : Known) → IsFresh k known.vectors → FoldingShaped len count f known.vectors → IsColumn len value known.vectors → Passes tables (aggregated f kind value) k known (IsColumn count)
   aggregated_passes of.Count value k known fresh h v = count_passes value k known fresh h v

@@ -1,15 +1,15 @@
 -- Folds of a value reach it.
-use Rattle.std.proofs.Common.{◌≡◌, ℕ, ◌+◌, true, List, [], ◌∷◌, ◌++◌, refl, sym, ap, subst, Option, Some, None, codes}
+use Rattle.std.proofs.Common.{◌≡◌, ℕ, ◌+◌, List, [], ◌∷◌, ◌++◌, refl, sym, subst, Option, Some, None, codes}
 use Rattle.control_vectors.specs.declared.PairKind.TheVariants as pair
 use Rattle.programs.specs.declared.family.FoldOperator.{FoldOperator}
 use Rattle.programs.specs.declared.family.FoldOperator.TheVariants as fold
 use Rattle.programs.specs.declared.op.FoldArgs.{FoldArgs}
-use Rattle.programs.specs.Mentions.{Label, mentioned, has_name}
+use Rattle.programs.specs.Mentions.{Label, mentioned}
 use Rattle.typed_trees.specs.declared.typed.AggregateKind.{AggregateKind}
 use Rattle.typed_trees.specs.declared.typed.AggregateKind.TheVariants as of
 use Rattle.program_writers.specs.Statements.{out, val, attribute, with_attribute, fold_args, fold_of, at_places}
 use Rattle.program_writers.specs.Statements as statements
-use Rattle.program_writers.specs.Writers.{Writer, ◌>>=◌, make, numbered}
+use Rattle.program_writers.specs.Writers.{◌>>=◌, make, numbered}
 use Rattle.writer_runs.specs.Uses.{Includes}
 use Rattle.writer_runs.proofs.Used.{beside}
 use Rattle.plan_lower.specs.Groups.{Folding, collected, folded, is_there, counted, count, mean, aggregated}

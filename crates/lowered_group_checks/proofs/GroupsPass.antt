@@ -1,43 +1,36 @@
 -- The part that writes groups passes the check.
-use Rattle.std.proofs.Common.{◌≡◌, ◌≢◌, ◌∙◌, ℕ, ◌+◌, ◌<◌, ◌≤◌, ◌^◌, Bool, true, false, List, [], ◌∷◌, ◌++◌, length, map, get_or, refl, sym, ap, subst, arith, append_assoc, codes, decimal, Option, Some, None}
+use Rattle.std.proofs.Common.{◌≡◌, ℕ, ◌+◌, ◌<◌, ◌≤◌, ◌^◌, true, false, List, [], ◌∷◌, ◌++◌, length, map, get_or, refl, sym, subst, arith, codes, decimal, Option, Some, None}
 use Rattle.std.specs.Prelude.{All}
 use Rattle.std.specs.Option.{ForSome}
-use Rattle.std.specs.List.{enumerate_from, list_any}
+use Rattle.std.specs.List.{enumerate_from}
 use Rattle.std.proofs.lemmas.List.{map-append}
 use Rattle.std.proofs.lemmas.List.Elements.{All-nil, All-cons, All-head, All-tail, All-append, All-map, All-contains, All-contains_itself, Contains-append_left, Contains-append_right}
 use Rattle.control_vectors.specs.declared.PairKind.TheVariants as pair
 use Rattle.key_paths.specs.Substructures.{is_at_or_below}
-use Rattle.programs.specs.declared.family.FoldOperator.TheVariants as fold
-use Rattle.programs.specs.declared.op.Op.TheVariants as op
-use Rattle.programs.specs.declared.op.Size.TheVariants as size
-use Rattle.programs.specs.declared.order_keys.OrderPath.{OrderPath}
 use Rattle.programs.specs.Check.{Known}
 use Rattle.programs.specs.Mentions.{Label, has_name}
 use Rattle.programs.specs.Outlines.{Shapes}
 use Rattle.typed_trees.specs.declared.typed.Aggregate.{Aggregate}
 use Rattle.typed_trees.specs.declared.typed.ColumnRef.{ColumnRef}
 use Rattle.typed_trees.specs.declared.typed.TypedExpr.{TypedExpr}
-use Rattle.typed_trees.specs.Names.{same_column, names_column, names_aggregate}
 use Rattle.typed_trees.specs.Types.{no_aggregate}
 use Rattle.expr_lower.specs.declared.places.AggregatePlace.{AggregatePlace}
 use Rattle.expr_lower.specs.declared.places.ColumnPlace.{ColumnPlace}
 use Rattle.expr_steps.specs.Lowered.{Bytes}
-use Rattle.program_writers.specs.Names.{IsBelow}
-use Rattle.program_writers.specs.Statements.{out, mark, val, run, zeros, ones, attribute, with_attribute, fold_args, fold_of, at_places}
-use Rattle.program_writers.specs.Statements as statements
-use Rattle.program_writers.specs.Writers.{Writer, tell, ◌>>=◌, through, make}
-use Rattle.plan_lower.specs.Groups.{Folding, nought_at, ascending, sorted, run_path, run_by, runs_of, key_path, key_of, run_groups, by_columns, one_place, one_run, as_one, folding, aggregated, argument, aggregate_path, aggregate_of, grouped}
-use Rattle.plan_lower.specs.Sites.{Base, marked_alone, moved_to, path_in, with_column, with_aggregate}
+use Rattle.program_writers.specs.Statements.{out, mark, val, run, with_attribute}
+use Rattle.program_writers.specs.Writers.{tell, ◌>>=◌, through, make}
+use Rattle.plan_lower.specs.Groups.{Folding, nought_at, run_path, key_path, aggregated, argument, aggregate_path, aggregate_of}
+use Rattle.plan_lower.specs.Sites.{Base, with_column, with_aggregate}
 use Rattle.writer_checks.specs.Checks.{IsFresh, HasShape, Passes}
 use Rattle.writer_checks.specs.Laws.{IsAttribute, Shaped}
 use Rattle.writer_checks.specs.Paths.{is_flat}
 use Rattle.writer_checks.proofs.Passing.{operator_laws}
 use Rattle.writer_checks.proofs.Routes.{path_laws}
 use Rattle.lowered_stages.specs.Stages.{paths_of, IsShaped}
-use Rattle.lowered_stages.specs.Parts.{CanGroup, CanValue, SamePlaces}
-use Rattle.lowered_group_checks.specs.Laws.{ValuePasses, GroupsPass}
-use Rattle.lowered_group_checks.proofs.FoldsPass.{IsColumn, FirstShaped, FoldingShaped, folding_still, aggregated_passes}
-use Rattle.lowered_group_checks.proofs.Shaped.{Stays, still, then_passes, tells, pair_passes, one_path, no_path, with_paths, mark_path, column_named, column_in}
+use Rattle.lowered_stages.specs.Parts.{CanValue}
+use Rattle.lowered_group_checks.specs.Laws.{ValuePasses}
+use Rattle.lowered_group_checks.proofs.FoldsPass.{IsColumn, FoldingShaped, folding_still, aggregated_passes}
+use Rattle.lowered_group_checks.proofs.Shaped.{Stays, still, then_passes, tells, pair_passes, with_paths, mark_path}
 
 -- ---- attributes
 
@@ -145,8 +138,8 @@ with_new_aggregate count m n b name shapes before g h =
     let place : AggregatePlace = record { aggregate = n; path = aggregate_path n } in
     record {
       shape = with_paths shapes name count (aggregate_path n ∷ paths_of b) (paths_of (with_aggregate name n (aggregate_path n) b)) h
-        (subst (λ (l : List Label). All P (mark ∷ (map (λ p. p.path) b.columns ++ l))) (sym (map-append (λ (p : AggregatePlace). p.path) b.aggregates (place ∷ [])))
-        (into_third P (aggregate_path n) mark (map (λ p. p.path) b.columns) (map (λ p. p.path) b.aggregates) h.each));
+          (subst (λ (l : List Label). All P (mark ∷ (map (λ p. p.path) b.columns ++ l))) (sym (map-append (λ (p : AggregatePlace). p.path) b.aggregates (place ∷ [])))
+          (into_third P (aggregate_path n) mark (map (λ p. p.path) b.columns) (map (λ p. p.path) b.aggregates) h.each));
       keys = g.keys;
       numbers = all_last (λ p. IsAggregateBelow (n + 1) p.path) b.aggregates place (all_weaker (λ p. IsAggregateBelow n p.path) (λ p. IsAggregateBelow (n + 1) p.path) b.aggregates (λ p i. (i.0, omega (arith, i.1), i.2)) g.numbers) (n, omega arith, refl);
     }
@@ -157,8 +150,8 @@ with_new_key count m b c name shapes before g h =
     let place : ColumnPlace = record { column = c; path = key_path m } in
     record {
       shape = with_paths shapes name count (key_path m ∷ paths_of b) (paths_of (with_column name c (key_path m) b)) h
-        (subst (λ (l : List Label). All P (mark ∷ (l ++ map (λ p. p.path) b.aggregates))) (sym (map-append (λ (p : ColumnPlace). p.path) b.columns (place ∷ [])))
-        (into_second P (key_path m) mark (map (λ p. p.path) b.columns) (map (λ p. p.path) b.aggregates) h.each));
+          (subst (λ (l : List Label). All P (mark ∷ (l ++ map (λ p. p.path) b.aggregates))) (sym (map-append (λ (p : ColumnPlace). p.path) b.columns (place ∷ [])))
+          (into_second P (key_path m) mark (map (λ p. p.path) b.columns) (map (λ p. p.path) b.aggregates) h.each));
       keys = all_last (λ p. IsKeyBelow (m + 1) p.path) b.columns place (all_weaker (λ p. IsKeyBelow m p.path) (λ p. IsKeyBelow (m + 1) p.path) b.columns (λ p i. (i.0, omega (arith, i.1), i.2)) g.keys) (m, omega arith, refl);
       numbers = g.numbers;
     }
@@ -186,20 +179,20 @@ module _ (values : ValuePasses) (tables : Shapes) (texts : List Bytes) (len coun
       let put = λ (x : Label). make (codes "groups") (with_attribute b.vector (aggregate_path n) x out) >>= end in
       then_passes tables (argument texts f a.argument) (λ value. aggregated f a.kind value >>= put) k known (IsColumn len) (Both m (n + 1)) (argument_passes a.argument can k known fresh h.folding)
       (λ value next between new shape stays.
-        let g = groups_still count m n b k known.vectors between.vectors fresh stays h.groups in
-        let i = folding_still len count f k known.vectors between.vectors fresh stays h.folding in
-        then_passes tables (aggregated f a.kind value) put next between (IsColumn count) (Both m (n + 1)) (aggregated_passes tables len count f a.kind value next between new i shape)
-        (λ x last after fresher column stay.
-          let g2 = groups_still count m n b next between.vectors after.vectors new stay g in
-          let i2 = folding_still len count f next between.vectors after.vectors new stay i in
-          then_passes tables (make (codes "groups") (with_attribute b.vector (aggregate_path n) x out)) end last after (Shaped count (aggregate_path n ∷ paths_of b)) (Both m (n + 1))
-          (operator_laws.upsert tables (codes "groups") b.vector (aggregate_path n) x out count (paths_of b) count last after refl fresher
-          (path_laws.attribute_one (codes "a" ++ decimal n) (aggregate_flat n small) (some_more (codes "a") n (omega arith))) i2.small g2.shape column
-          (path_laws.none_above_one after.vectors b.vector (codes "a" ++ decimal n) (codes "mark") count (map (λ p. p.path) b.columns ++ map (λ p. p.path) b.aggregates) (aggregate_flat n small) g2.shape)
-          (beside_aggregate count m n b after.vectors small g2))
-          (λ vector final done freshest shaped stood.
-            tells tables (with_aggregate vector n (aggregate_path n) b) final done (Both m (n + 1)) freshest
-            (record { folding = folding_still len count f last after.vectors done.vectors fresher stood i2; groups = with_new_aggregate count m n b vector done.vectors after.vectors g2 shaped }))))
+      let g = groups_still count m n b k known.vectors between.vectors fresh stays h.groups in
+      let i = folding_still len count f k known.vectors between.vectors fresh stays h.folding in
+      then_passes tables (aggregated f a.kind value) put next between (IsColumn count) (Both m (n + 1)) (aggregated_passes tables len count f a.kind value next between new i shape)
+      (λ x last after fresher column stay.
+      let g2 = groups_still count m n b next between.vectors after.vectors new stay g in
+      let i2 = folding_still len count f next between.vectors after.vectors new stay i in
+      then_passes tables (make (codes "groups") (with_attribute b.vector (aggregate_path n) x out)) end last after (Shaped count (aggregate_path n ∷ paths_of b)) (Both m (n + 1))
+      (operator_laws.upsert tables (codes "groups") b.vector (aggregate_path n) x out count (paths_of b) count last after refl fresher
+      (path_laws.attribute_one (codes "a" ++ decimal n) (aggregate_flat n small) (some_more (codes "a") n (omega arith))) i2.small g2.shape column
+      (path_laws.none_above_one after.vectors b.vector (codes "a" ++ decimal n) (codes "mark") count (map (λ p. p.path) b.columns ++ map (λ p. p.path) b.aggregates) (aggregate_flat n small) g2.shape)
+      (beside_aggregate count m n b after.vectors small g2))
+      (λ vector final done freshest shaped stood.
+      tells tables (with_aggregate vector n (aggregate_path n) b) final done (Both m (n + 1)) freshest
+      (record { folding = folding_still len count f last after.vectors done.vectors fresher stood i2; groups = with_new_aggregate count m n b vector done.vectors after.vectors g2 shaped }))))
 
   pub aggregates_pass : (m : ℕ) (others : List Aggregate) (n : ℕ) (b : Base) → n + length others < 2 ^ 64 → All (λ a. ForSome a.argument (CanValue no_aggregate f.rows)) others → (k : ℕ) (known : Known) → IsFresh k known.vectors → Both m n b known.vectors
       → Passes tables (through (aggregate_of texts f) b (enumerate_from n others)) k known (λ c shapes. (l : ℕ) × Both m l c shapes)

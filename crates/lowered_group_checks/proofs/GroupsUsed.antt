@@ -1,5 +1,5 @@
 -- The groups' vector reaches the rows'.
-use Rattle.std.proofs.Common.{◌≡◌, ℕ, ◌+◌, true, false, List, [], ◌∷◌, ◌++◌, refl, Option, Some, None, map, codes}
+use Rattle.std.proofs.Common.{◌≡◌, ℕ, ◌+◌, true, false, List, [], ◌∷◌, refl, Option, Some, None, map, codes}
 use Rattle.std.specs.List.{enumerate_from}
 use Rattle.control_vectors.specs.declared.PairKind.TheVariants as pair
 use Rattle.programs.specs.declared.family.FoldOperator.TheVariants as fold
@@ -9,14 +9,13 @@ use Rattle.programs.specs.Mentions.{Label}
 use Rattle.typed_trees.specs.declared.typed.Aggregate.{Aggregate}
 use Rattle.typed_trees.specs.declared.typed.ColumnRef.{ColumnRef}
 use Rattle.typed_trees.specs.declared.typed.TypedExpr.{TypedExpr}
-use Rattle.query_answers.specs.Clauses.{is_grouped}
 use Rattle.expr_steps.specs.Lowered.{Bytes}
 use Rattle.program_writers.specs.Statements.{out, mark, val, run, zeros, ones, attribute, with_attribute, fold_args, fold_of, at_places}
 use Rattle.program_writers.specs.Statements as statements
 use Rattle.program_writers.specs.Writers.{Writer, tell, ◌>>=◌, through, make, numbered}
 use Rattle.writer_runs.proofs.Used.{beside}
 use Rattle.plan_lower.specs.Sites.{Base, marked_alone, moved_to, path_in, with_column, with_aggregate}
-use Rattle.plan_lower.specs.Groups.{Folding, nought_at, ascending, sorted, run_path, run_by, runs_of, key_path, key_of, run_groups, by_columns, one_place, one_run, as_one, folding, aggregated, argument, aggregate_path, aggregate_of, grouped}
+use Rattle.plan_lower.specs.Groups.{Folding, nought_at, ascending, sorted, run_path, run_by, runs_of, key_path, key_of, run_groups, by_columns, one_place, one_run, as_one, aggregated, argument, aggregate_path, aggregate_of}
 use Rattle.lowered_group_checks.specs.Laws.{ValueUses, GroupsUsed}
 use Rattle.lowered_group_checks.proofs.Used.{UsesAt, here, there, includes_one, includes_more, nothing_used, fewer, then_used, last_used, used_then, idle_then, through_used, through_idle}
 use Rattle.lowered_group_checks.proofs.FoldsUsed.{aggregated_used}

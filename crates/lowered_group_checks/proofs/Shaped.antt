@@ -1,18 +1,16 @@
 -- Shapes of vectors, and statements that pass behind them.
-use Rattle.std.proofs.Common.{◌≡◌, ◌∙◌, ℕ, ◌≤◌, ◌^◌, Bool, true, false, ◌||◌, List, [], ◌∷◌, ◌++◌, map, refl, sym, ap, subst, codes}
+use Rattle.std.proofs.Common.{◌≡◌, ◌∙◌, ℕ, ◌≤◌, ◌^◌, Bool, true, false, ◌||◌, List, [], ◌∷◌, ◌++◌, map, refl, sym, ap, subst}
 use Rattle.std.specs.Prelude.{All, if◌then◌else◌}
 use Rattle.std.specs.List.{list_any}
 use Rattle.std.specs.Str.{bytes_eq}
 use Rattle.std.proofs.lemmas.Bool.{false≢true}
-use Rattle.std.proofs.lemmas.List.Elements.{All-nil, All-cons, All-head, All-tail, All-append, All-map}
+use Rattle.std.proofs.lemmas.List.Elements.{All-nil, All-cons, All-head, All-tail}
 use Rattle.std.proofs.lemmas.Slice.Eq.{bytes_eq-Decides}
 use Rattle.control_vectors.specs.declared.PairKind.{PairKind}
-use Rattle.control_vectors.specs.declared.PairKind.TheVariants as pair
 use Rattle.programs.specs.Check.{Known}
 use Rattle.programs.specs.Mentions.{Label, has_name}
-use Rattle.programs.specs.Outlines.{Outline, Shapes}
+use Rattle.programs.specs.Outlines.{Shapes}
 use Rattle.programs.proofs.Marks.{has_name-append}
-use Rattle.programs.proofs.ReachLemmas.{has_name-behind}
 use Rattle.typed_trees.specs.declared.typed.ColumnRef.{ColumnRef}
 use Rattle.typed_trees.specs.Names.{same_column}
 use Rattle.expr_lower.specs.declared.places.ColumnPlace.{ColumnPlace}

@@ -1,12 +1,11 @@
 -- Used statements of parts, one behind another.
-use Rattle.std.proofs.Common.{◌≡◌, ℕ, ◌+◌, Bool, true, false, ◌||◌, List, [], ◌∷◌, ◌++◌, refl, sym, ap, ◌∙◌, subst}
+use Rattle.std.proofs.Common.{◌≡◌, ℕ, ◌+◌, Bool, true, false, ◌||◌, List, [], ◌∷◌, ◌++◌, refl, ap, ◌∙◌, subst}
 use Rattle.std.specs.Str.{bytes_eq}
 use Rattle.std.proofs.lemmas.Slice.Eq.{bytes_eq-Decides}
 use Rattle.programs.specs.declared.op.Op.{Op}
-use Rattle.programs.specs.declared.op.Statement.{Statement}
 use Rattle.programs.specs.Mentions.{Label, mentioned, has_name}
 use Rattle.programs.proofs.ReachLemmas.{or_true}
-use Rattle.program_writers.specs.Writers.{Writer, tell, ◌>>=◌, through, make, numbered, statement}
+use Rattle.program_writers.specs.Writers.{Writer, ◌>>=◌, through, make, numbered, statement}
 use Rattle.writer_runs.specs.Uses.{never_over, Includes, Uses}
 use Rattle.writer_runs.proofs.Used.{append, more, one, idle, used_laws}
 

@@ -34,7 +34,7 @@ use Rattle.writer_runs.specs.Runs.{Makes, Delivers}
 use Rattle.writer_runs.proofs.Composed.{makes_bind}
 use Rattle.lowered_groups.proofs.Cells.{cells, slot_of, absorbed, AreOk, ok_cells, paired_cell, both_cells, first_spreads, second_spreads}
 use Rattle.lowered_groups.proofs.Folds.{Gives, gives_column, gives_later, gives_tells, pair_makes, IsFolding, folding_later, fold_cell, zero_row, NowCells, MakesCells, folded_makes}
-use Rattle.lowered_groups.proofs.Parts.{Has, Kept, NowHas, delivers_after, delivers_then, delivers_weaker, delivers_pair}
+use Rattle.lowered_groups.proofs.Parts.{Has, NowHas, delivers_after, delivers_then, delivers_pair}
 
 -- ---- two columns, where a place may be Over
 
@@ -92,11 +92,11 @@ module _ (store : Env) (texts : List Bytes) (f : Folding) (rows : Held FromRow) 
       (NowHas (vectors.column out (length rows) (column (λ r. same_slot (g r)) rows))) (λ name next after. Gives next after rows name (λ r. there (g r)))
       (pair_makes store (codes "same") k env pair.Equals value out value out rows g g (λ r. same_slot (g r)) refl tells tells equal)
       (λ same next between more has kept.
-        let first = gives_column next between rows same (λ r. same_slot (g r)) has in
-        let zero = gives_later k next env between rows f.nought zero_row more kept i.nought in
-        given next between
-        (pair_makes store (codes "there") next between pair.Fill same out f.nought out rows (λ r. same_slot (g r)) zero_row (λ r. there (g r)) refl
-        (gives_tells next between rows same (λ r. same_slot (g r)) first) (gives_tells next between rows f.nought zero_row zero) filled))
+      let first = gives_column next between rows same (λ r. same_slot (g r)) has in
+      let zero = gives_later k next env between rows f.nought zero_row more kept i.nought in
+      given next between
+      (pair_makes store (codes "there") next between pair.Fill same out f.nought out rows (λ r. same_slot (g r)) zero_row (λ r. there (g r)) refl
+      (gives_tells next between rows same (λ r. same_slot (g r)) first) (gives_tells next between rows f.nought zero_row zero) filled))
     where
       tells : Tells env value out g rows
       tells = gives_tells k env rows value g gives
@@ -143,10 +143,10 @@ module _ (store : Env) (texts : List Bytes) (f : Folding) (rows : Held FromRow) 
       (delivers_then store (counted f value) (λ n. make (codes "count") (statements.pair pair.Fill (attribute n out) (attribute f.zero out))) k env (all_slots (cells c gs)) (NowCells gs)
       (λ xs. all_slots (cells (count_cell g) gs)) (NowCells gs) (counted_makes k env i value g gives)
       (λ xs e n next between more has kept.
-        let zero = gives_later k next env between gs f.zero zero_of more kept i.zero in
-        pair_delivers store (codes "count") next between pair.Fill n f.zero gs (λ group. slot_of (c group)) zero_of (cells (count_cell g) gs) refl
-        (gives_tells next between gs n (λ group. slot_of (c group)) (gives_cells next between gs c xs n e has)) (gives_tells next between gs f.zero zero_of zero)
-        (both_cells pair.Fill c d gs refl (ok_cells c gs xs e).0 (nought_ok gs))))
+      let zero = gives_later k next env between gs f.zero zero_of more kept i.zero in
+      pair_delivers store (codes "count") next between pair.Fill n f.zero gs (λ group. slot_of (c group)) zero_of (cells (count_cell g) gs) refl
+      (gives_tells next between gs n (λ group. slot_of (c group)) (gives_cells next between gs c xs n e has)) (gives_tells next between gs f.zero zero_of zero)
+      (both_cells pair.Fill c d gs refl (ok_cells c gs xs e).0 (nought_ok gs))))
 
   abbrev mean_cell : (FromRow → Slot) → Group → Cell
   mean_cell g = paired_cell pair.Divide (fold_cell number.Sum g) (there_cell g)
@@ -162,10 +162,10 @@ module _ (store : Env) (texts : List Bytes) (f : Folding) (rows : Held FromRow) 
       (delivers_then store (counted f value) (λ n. make (codes "mean") (statements.pair pair.Divide (attribute total out) (attribute n out))) k env (all_slots (cells d gs)) (NowCells gs)
       (λ xs. all_slots (cells (mean_cell g) gs)) (NowCells gs) (counted_makes k env i value g gives)
       (λ xs e n next between more has kept.
-        pair_delivers store (codes "mean") next between pair.Divide total n gs (λ group. slot_of (c group)) (λ group. slot_of (d group)) (cells (mean_cell g) gs) refl
-        (gives_tells next between gs total (λ group. slot_of (c group)) (gives_later k next env between gs total (λ group. slot_of (c group)) more kept sum))
-        (gives_tells next between gs n (λ group. slot_of (d group)) (gives_cells next between gs d xs n e has))
-        (both_cells pair.Divide c d gs refl fine (ok_cells d gs xs e).0)))
+      pair_delivers store (codes "mean") next between pair.Divide total n gs (λ group. slot_of (c group)) (λ group. slot_of (d group)) (cells (mean_cell g) gs) refl
+      (gives_tells next between gs total (λ group. slot_of (c group)) (gives_later k next env between gs total (λ group. slot_of (c group)) more kept sum))
+      (gives_tells next between gs n (λ group. slot_of (d group)) (gives_cells next between gs d xs n e has))
+      (both_cells pair.Divide c d gs refl fine (ok_cells d gs xs e).0)))
 
   mean_makes : (k : ℕ) (env : Env) → IsFolding texts k env f rows gs → (value : Label) (g : FromRow → Slot) → Gives k env rows value g → MakesCells store (mean f value) k env gs (mean_cell g)
   mean_makes k env i value g gives =
@@ -175,8 +175,8 @@ module _ (store : Env) (texts : List Bytes) (f : Folding) (rows : Held FromRow) 
       (delivers_then store (folded f fold.Sum value) (λ total. counted f value >>= λ n. make (codes "mean") (statements.pair pair.Divide (attribute total out) (attribute n out))) k env (all_slots (cells c gs)) (NowCells gs)
       (λ xs. all_slots (cells (mean_cell g) gs)) (NowCells gs) (total_makes k env i value g gives)
       (λ xs e total next between more has kept.
-        mean_behind next between (folding_later texts k next env between f rows gs more kept i) value total g (gives_later k next env between rows value g more kept gives)
-        (gives_cells next between gs c xs total e has) (ok_cells c gs xs e).0))
+      mean_behind next between (folding_later texts k next env between f rows gs more kept i) value total g (gives_later k next env between rows value g more kept gives)
+      (gives_cells next between gs c xs total e has) (ok_cells c gs xs e).0))
 
   -- ---- an aggregate
 

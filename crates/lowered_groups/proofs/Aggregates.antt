@@ -1,13 +1,13 @@
 -- The aggregates of groups, one after another.
-use Rattle.std.proofs.Common.{◌≡◌, ◌∙◌, ℕ, ◌+◌, ◌<◌, ◌≤◌, ◌^◌, pos, Bool, true, false, ◌||◌, List, [], ◌∷◌, ◌++◌, length, map, refl, sym, ap, subst, arith, append_assoc, length-append, Option, Some, None, Result, Ok, Err, codes}
+use Rattle.std.proofs.Common.{◌≡◌, ◌∙◌, ℕ, ◌+◌, ◌<◌, ◌≤◌, ◌^◌, Bool, true, false, ◌||◌, List, [], ◌∷◌, ◌++◌, length, map, refl, sym, ap, subst, arith, append_assoc, length-append, Option, Some, None, Result, Ok, Err, codes}
 use Rattle.std.specs.Prelude.{is_some, slice_index_or, if◌then◌else◌}
 use Rattle.std.specs.Option.{ForSome}
-use Rattle.std.specs.List.{All, enumerate_from, list_any}
+use Rattle.std.specs.List.{All, enumerate_from}
 use Rattle.std.proofs.lemmas.List.Elements.{All-head, All-tail}
 use Rattle.control_vectors.specs.Slots.{Slot, Cell, over, has_over, slots_in, all_slots}
 use Rattle.control_vectors.specs.declared.Over.{Over}
 use Rattle.control_vectors.specs.declared.PairKind.TheVariants as pair
-use Rattle.sql_values.specs.Values.{Value, null}
+use Rattle.sql_values.specs.Values.{null}
 use Rattle.table_load.specs.Databases.{coded}
 use Rattle.programs.specs.Mentions.{Label}
 use Rattle.programs.specs.Vectors.{Vector, Env, slots_of}
@@ -17,7 +17,7 @@ use Rattle.typed_trees.specs.declared.typed.Aggregate.{Aggregate}
 use Rattle.typed_trees.specs.declared.typed.AggregateKind.{AggregateKind}
 use Rattle.typed_trees.specs.declared.typed.ColumnRef.{ColumnRef}
 use Rattle.typed_trees.specs.declared.typed.TypedExpr.{TypedExpr}
-use Rattle.typed_trees.specs.Types.{no_aggregate, argument_type, aggregate_type}
+use Rattle.typed_trees.specs.Types.{no_aggregate, aggregate_type}
 use Rattle.typed_values.specs.Values.{Valued, value}
 use Rattle.value_laws.specs.Laws.{KindLaw}
 use Rattle.query_answers.specs.Answers.{FromRow, Group, on_row}
@@ -26,31 +26,29 @@ use Rattle.query_answers.specs.Overs.{each}
 use Rattle.query_answers.specs.Overs as overs
 use Rattle.expr_steps.specs.Lowered.{Bytes}
 use Rattle.expr_values.specs.Laws.{CanStand, KnownLaw, value_slot, value_cell}
-use Rattle.held_groups.specs.Overs.{ok_value, over_group, group_on, some_over}
+use Rattle.held_groups.specs.Overs.{ok_value, over_group, some_over}
 use Rattle.held_rows.specs.Held.{Held, present, at, column, one}
 use Rattle.held_rows.specs.Laws.{both_at}
 use Rattle.held_rows.specs.Vectors.{Tells}
 use Rattle.held_rows.proofs.Upserted.{first_slots}
 use Rattle.program_writers.specs.Names.{IsBelow}
-use Rattle.program_writers.specs.Statements.{out, mark, attribute, with_attribute}
-use Rattle.program_writers.specs.Statements as statements
+use Rattle.program_writers.specs.Statements.{out, mark, with_attribute}
 use Rattle.program_writers.specs.Writers.{Writer, tell, ◌>>=◌, through, make}
 use Rattle.program_writers.proofs.Numbers.{below_more}
 use Rattle.plan_lower.specs.Groups.{Folding, aggregated, argument, aggregate_path, aggregate_of}
 use Rattle.plan_lower.specs.Rows.{everywhere}
 use Rattle.plan_lower.specs.Sites.{Base, with_aggregate, value_of}
-use Rattle.writer_runs.specs.Runs.{Makes, Delivers, Sees}
+use Rattle.writer_runs.specs.Runs.{Makes, Delivers}
 use Rattle.writer_runs.proofs.Composed.{makes_tell, makes_bind}
 use Rattle.lowered_stages.specs.Laws as stages
-use Rattle.lowered_stages.specs.Stages.{aggregate_told}
 use Rattle.lowered_stages.specs.Parts.{CanValue, CanValueAll}
 use Rattle.lowered_groups.specs.Laws.{ValueOfRows}
 use Rattle.lowered_groups.proofs.Aggregated.{aggregate_cell, aggregated_makes}
 use Rattle.lowered_groups.proofs.Bases.{IsGroups, groups_later, more_aggregate}
 use Rattle.lowered_groups.proofs.Cells.{cells, slot_of, absorbed, ok_cells}
 use Rattle.lowered_groups.proofs.Columns.{mark_slots}
-use Rattle.lowered_groups.proofs.Folds.{Gives, gives_column, tells_of, pair_makes, IsFolding, folding_later, NowCells, MakesCells}
-use Rattle.lowered_groups.proofs.Parts.{Has, Kept, NowHas, has_later, delivers_after, delivers_then, delivers_makes, makes_upsert}
+use Rattle.lowered_groups.proofs.Folds.{Gives, gives_column, tells_of, pair_makes, IsFolding, folding_later, NowCells}
+use Rattle.lowered_groups.proofs.Parts.{Has, Kept, NowHas, delivers_after, delivers_then, delivers_makes, makes_upsert}
 use Rattle.lowered_groups.proofs.Values.{Regroups, over_cell, any_over, argument_over_cells, all_present, none_agrees, some_agrees}
 
 -- what an argument can be, and the rows on which it has values
@@ -65,7 +63,6 @@ made_if true = Err over
 made_if false = Ok tt
 
 module _ (kinds : KindLaw) (knows : KnownLaw) (values : ValueOfRows) (store : Env) (texts : List Bytes) (f : Folding) (rows : Held FromRow) (gs : Held Group) (columns : List ColumnRef) (all : List FromRow) (re : Regroups columns all rows gs) (few : length all ≤ 2 ^ 20) where
-
   -- ---- an argument and its aggregate, and a part behind them
 
   abbrev Behind : {B : Type 0} → ℕ → Env → List Cell → (Label → Writer B) → (B → ℕ → Env → Type 0) → Type 0
@@ -101,8 +98,8 @@ module _ (kinds : KindLaw) (knows : KnownLaw) (values : ValueOfRows) (store : En
       let cs = cells (over_cell texts (record { kind = kind; argument = None })) gs in
       delivers_after store (everywhere f.rows) (λ value. aggregated f kind value >>= put) k env (NowHas (vectors.column out (length rows) (column one rows))) (all_slots cs) (λ xs. Q) (everywhere_gives k env i)
       (λ name next between more has kept.
-        value_behind next between (folding_later texts k next env between f rows gs more kept i) kind name one cs put Q (gives_column next between rows name one has)
-        (none_agrees columns all rows gs re few texts kind can.typed) (behind_later k next env between cs put Q more kept rest))
+      value_behind next between (folding_later texts k next env between f rows gs more kept i) kind name one cs put Q (gives_column next between rows name one has)
+      (none_agrees columns all rows gs re few texts kind can.typed) (behind_later k next env between cs put Q more kept rest))
   argument_behind {B} k env i kind (Some x) can put Q rest =
       let cs = cells (over_cell texts (record { kind = kind; argument = Some x })) gs in
       let on = λ (r : FromRow). value (on_row r) x in
@@ -114,11 +111,11 @@ module _ (kinds : KindLaw) (knows : KnownLaw) (values : ValueOfRows) (store : En
       (λ vs name next after. IsBelow next name × stages.Tells rows (λ r. value_slot texts (on r)) name after) (λ vs. all_slots cs) (λ xs. Q)
       (values texts no_aggregate rows store env f.rows (codes "argument") x k refl i.rows_below i.stands fine (all_present columns all rows gs re (λ r. CanStand texts no_aggregate (on_row r) x) stands))
       (λ vs e name next between more told kept.
-        let t = told.1 in
-        value_behind next between (folding_later texts k next env between f rows gs more kept i) kind name (λ r. value_slot texts (on r)) cs put Q
-        (record { vector = t.vector; has = record { sees = t.sees; below = told.0 }; len = t.len; slots = t.slots })
-        (some_agrees columns all rows gs re few texts kinds knows x fine.lowerable stands kind can.typed vs e)
-        (behind_later k next env between cs put Q more kept rest)))
+      let t = told.1 in
+      value_behind next between (folding_later texts k next env between f rows gs more kept i) kind name (λ r. value_slot texts (on r)) cs put Q
+      (record { vector = t.vector; has = record { sees = t.sees; below = told.0 }; len = t.len; slots = t.slots })
+      (some_agrees columns all rows gs re few texts kinds knows x fine.lowerable stands kind can.typed vs e)
+      (behind_later k next env between cs put Q more kept rest)))
 
   -- ---- one aggregate more
 
@@ -150,14 +147,14 @@ module _ (kinds : KindLaw) (knows : KnownLaw) (values : ValueOfRows) (store : En
         let on = groups_later texts q k next env between gs b n more kept g in
         let u = vectors.column out (length gs) xs in
         let slots : slots_of u.attributes out ≡ column (told_slot n) gs =
-            first_slots out xs [] ∙ (ok_cells (over_cell texts a) gs xs e).1 ∙ (λ i. column (λ group. slot_is front a others is n same group i) gs) in
+        first_slots out xs [] ∙ (ok_cells (over_cell texts a) gs xs e).1 ∙ (λ i. column (λ group. slot_is front a others is n same group i) gs) in
         let end = λ (vector : Label). tell (with_aggregate vector n (aggregate_path n) b) in
         makes_bind Label Base store (make (codes "groups") (with_attribute b.vector (aggregate_path n) x out)) end next between
         (NowHas (upserted on.stands.vector (aggregate_path n) u out)) (λ c next after. IsGroups texts q next after gs c (n + 1))
         (makes_upsert store (codes "groups") next between refl b.vector (aggregate_path n) x out on.stands.vector u (record { sees = on.stands.sees; below = on.below }) has)
         (λ vector later after on_more done left.
-          makes_tell Base store (with_aggregate vector n (aggregate_path n) b) later after (λ c next after. IsGroups texts q next after gs c (n + 1))
-          (more_aggregate texts q gs b n next later between after vector u small on slots done))
+        makes_tell Base store (with_aggregate vector n (aggregate_path n) b) later after (λ c next after. IsGroups texts q next after gs c (n + 1))
+        (more_aggregate texts q gs b n next later between after vector u small on slots done))
 
     aggregate_makes : (front : List Aggregate) (a : Aggregate) (others : List Aggregate) → q.aggregates ≡ front ++ a ∷ others → (n : ℕ) → n ≡ length front → n < 2 ^ 64 → CanAggregate texts f.rows all a → (b : Base) (k : ℕ) (env : Env) → IsFolding texts k env f rows gs → IsGroups texts q k env gs b n
         → Delivers store (aggregate_of texts f b (n, a)) k env (all_slots (cells (over_cell texts a) gs)) (λ xs c next after. IsGroups texts q next after gs c (n + 1))
@@ -192,5 +189,5 @@ module _ (kinds : KindLaw) (knows : KnownLaw) (values : ValueOfRows) (store : En
         (delivers_then store (aggregate_of texts f b (n, a)) rest k env (all_slots (cells (over_cell texts a) gs)) (λ xs c next after. IsGroups texts q next after gs c (n + 1)) (λ xs. all_made others) (λ u c next after. IsGroups texts q next after gs c (n + length (a ∷ others)))
         (aggregate_makes front a others is n same (omega (arith, small)) (All-head (CanAggregate texts f.rows all) a others can) b k env i g)
         (λ xs e c next between more groups kept.
-          subst (λ (m : ℕ). Delivers store (rest c) next between (all_made others) (λ u c next after. IsGroups texts q next after gs c m)) (omega arith)
-          (aggregates_make (front ++ a ∷ []) others left (n + 1) longer (omega (arith, small)) (All-tail (CanAggregate texts f.rows all) a others can) c next between (folding_later texts k next env between f rows gs more kept i) groups)))
+        subst (λ (m : ℕ). Delivers store (rest c) next between (all_made others) (λ u c next after. IsGroups texts q next after gs c m)) (omega arith)
+        (aggregates_make (front ++ a ∷ []) others left (n + 1) longer (omega (arith, small)) (All-tail (CanAggregate texts f.rows all) a others can) c next between (folding_later texts k next env between f rows gs more kept i) groups)))

@@ -1,14 +1,12 @@
 -- One group of all rows.
-use Rattle.std.proofs.Common.{◌≡◌, ◌∙◌, ℕ, zero, suc, ◌*◌, ◌+◌, ◌<◌, ◌≤◌, pos, true, List, [], ◌∷◌, ◌++◌, length, map, replicate, refl, sym, ap, subst, arith, Option, Some, None, Ok, codes}
+use Rattle.std.proofs.Common.{◌≡◌, ◌∙◌, ℕ, zero, suc, ◌*◌, ◌+◌, ◌≤◌, pos, true, List, [], ◌∷◌, length, map, replicate, refl, sym, ap, subst, arith, Option, Some, None, Ok, codes}
 use Rattle.std.specs.List.{All, range_with_len}
 use Rattle.std.proofs.lemmas.List.{nil_from_length}
 use Rattle.std.proofs.lemmas.List.Elements.{All-nil, All-head}
-use Rattle.control_vectors.specs.Controls.{control_at, control_list}
-use Rattle.control_vectors.specs.Folds.{fold_slots}
+use Rattle.control_vectors.specs.Controls.{control_at}
 use Rattle.control_vectors.specs.Runs as tuples
 use Rattle.control_vectors.specs.Runs.{side_by_side}
-use Rattle.control_vectors.specs.Slots.{Slot, Cell}
-use Rattle.control_vectors.specs.declared.FoldKind.{FoldKind}
+use Rattle.control_vectors.specs.Slots.{Slot}
 use Rattle.control_vectors.specs.declared.PairKind.TheVariants as pair
 use Rattle.slot_folds.specs.Folds.{folded}
 use Rattle.programs.specs.Mentions.{Label}
@@ -16,7 +14,6 @@ use Rattle.programs.specs.Vectors.{Vector, Env, slots_of}
 use Rattle.programs.specs.Vectors as vectors
 use Rattle.voodoo_ops.specs.Ranges.{ranged}
 use Rattle.voodoo_ops.specs.Runs.{run_marks}
-use Rattle.typed_trees.specs.declared.typed.ColumnRef.{ColumnRef}
 use Rattle.typed_trees.specs.Names.{same_column}
 use Rattle.std.specs.List.{list_any}
 use Rattle.query_answers.specs.Answers.{FromRow, Group, on_row}
@@ -24,17 +21,14 @@ use Rattle.query_answers.specs.Clauses.{Clauses}
 use Rattle.expr_lower.specs.declared.places.ColumnPlace.{ColumnPlace}
 use Rattle.expr_steps.specs.Lowered.{Bytes}
 use Rattle.held_groups.specs.Heads.{zero_of}
-use Rattle.held_groups.specs.Overs.{group_on}
 use Rattle.held_rows.specs.Held.{Held, Holds, present, at, column, one}
 use Rattle.held_rows.specs.Laws.{both_at}
 use Rattle.held_rows.specs.Vectors.{Tells}
 use Rattle.held_rows.proofs.Upserted.{range_holds}
 use Rattle.held_runs.proofs.Whole.{whole_fold_law}
-use Rattle.held_runs.specs.Laws.{one_cell}
 use Rattle.program_writers.specs.Names.{IsBelow}
-use Rattle.program_writers.specs.Statements.{out, mark, run, zeros, ones, attribute}
-use Rattle.program_writers.specs.Statements as statements
-use Rattle.program_writers.specs.Writers.{Writer, tell, ◌>>=◌, make}
+use Rattle.program_writers.specs.Statements.{out, mark, run, zeros, ones}
+use Rattle.program_writers.specs.Writers.{tell, ◌>>=◌}
 use Rattle.program_writers.proofs.Numbers.{below_more}
 use Rattle.plan_lower.specs.Groups.{Folding, nought_at, one_place, one_run, as_one}
 use Rattle.plan_lower.specs.Sites.{Base, marked_alone}
@@ -44,7 +38,7 @@ use Rattle.lowered_stages.specs.Stages.{StandsAt}
 use Rattle.lowered_stages.specs.Parts.{SamePlaces}
 use Rattle.lowered_groups.proofs.Bases.{IsGroups}
 use Rattle.lowered_groups.proofs.Columns.{mark_slots}
-use Rattle.lowered_groups.proofs.Folds.{Gives, gives_column, gives_later, tells_of, pair_makes, OneFold, zero_row, IsFolding, stands_later}
+use Rattle.lowered_groups.proofs.Folds.{Gives, gives_column, gives_later, tells_of, pair_makes, zero_row, IsFolding, stands_later}
 use Rattle.lowered_groups.proofs.Parts.{Has, Kept, NowHas, has_later, makes_range, makes_range_of}
 use Rattle.lowered_groups.proofs.Values.{Regroups}
 
@@ -139,10 +133,10 @@ module _ (store : Env) (texts : List Bytes) (q : Clauses) (b : Base) (held : Hel
       (NowHas (vectors.column out 1 (column zero_of one_group))) FoldsNow
       (nought_makes store k env groups (ranged 1 mark ones) one_group g refl (holds_mark holds))
       (λ zero next between more has kept.
-        makes_tell Folding store (record { rows = b; nought = nought; runs = runs; first = Some first; groups = marked_alone groups; zero = zero }) next between FoldsNow
-        (one_is next between nought runs first groups zero (stands_later texts on_row k env between b held below kept stands) (below_more k next b.vector more below)
-        (gives_later k next env between held nought zero_row more kept none) (has_later k next env between runs (ranged (length held) run zeros) more kept r)
-        (has_later k next env between first (ranged 1 out zeros) more kept f) (has_later k next env between groups (ranged 1 mark ones) more kept g) (gives_column next between one_group zero zero_of has)))
+      makes_tell Folding store (record { rows = b; nought = nought; runs = runs; first = Some first; groups = marked_alone groups; zero = zero }) next between FoldsNow
+      (one_is next between nought runs first groups zero (stands_later texts on_row k env between b held below kept stands) (below_more k next b.vector more below)
+      (gives_later k next env between held nought zero_row more kept none) (has_later k next env between runs (ranged (length held) run zeros) more kept r)
+      (has_later k next env between first (ranged 1 out zeros) more kept f) (has_later k next env between groups (ranged 1 mark ones) more kept g) (gives_column next between one_group zero zero_of has)))
     where
       holds_mark : Holds (ranged 1 mark ones) one_group ((mark, one) ∷ []) → slots_of (ranged 1 mark ones).attributes mark ≡ column one one_group
       holds_mark h = All-head (λ t. slots_of (ranged 1 mark ones).attributes t.0 ≡ column t.1 one_group) (mark, one) [] h.each
@@ -154,15 +148,15 @@ module _ (store : Env) (texts : List Bytes) (q : Clauses) (b : Base) (held : Hel
       (λ first. one_place (codes "groups") mark ones >>= λ groups. nought_at groups >>= λ zero. tell (record { rows = b; nought = nought; runs = runs; first = Some first; groups = marked_alone groups; zero = zero })) k env
       (NowHas (ranged 1 out zeros)) FoldsNow (makes_range store (codes "first") k env refl 1 out zeros)
       (λ first next between more has kept.
-        makes_bind Label Folding store (one_place (codes "groups") mark ones)
-        (λ groups. nought_at groups >>= λ zero. tell (record { rows = b; nought = nought; runs = runs; first = Some first; groups = marked_alone groups; zero = zero })) next between
-        (NowHas (ranged 1 mark ones)) FoldsNow (makes_range store (codes "groups") next between refl 1 mark ones)
-        (λ groups later after on has_groups left.
-          let through : Kept k env after = λ name low. left name (below_more k next name more low) ∙ kept name low in
-          let far : k ≤ later = omega (arith, more, on) in
-          behind_groups later after nought runs first groups (stands_later texts on_row k env after b held below through stands) (below_more k later b.vector far below)
-          (gives_later k later env after held nought zero_row far through none) (has_later k later env after runs (ranged (length held) run zeros) far through r)
-          (has_later next later between after first (ranged 1 out zeros) on left has) has_groups))
+      makes_bind Label Folding store (one_place (codes "groups") mark ones)
+      (λ groups. nought_at groups >>= λ zero. tell (record { rows = b; nought = nought; runs = runs; first = Some first; groups = marked_alone groups; zero = zero })) next between
+      (NowHas (ranged 1 mark ones)) FoldsNow (makes_range store (codes "groups") next between refl 1 mark ones)
+      (λ groups later after on has_groups left.
+      let through : Kept k env after = λ name low. left name (below_more k next name more low) ∙ kept name low in
+      let far : k ≤ later = omega (arith, more, on) in
+      behind_groups later after nought runs first groups (stands_later texts on_row k env after b held below through stands) (below_more k later b.vector far below)
+      (gives_later k later env after held nought zero_row far through none) (has_later k later env after runs (ranged (length held) run zeros) far through r)
+      (has_later next later between after first (ranged 1 out zeros) on left has) has_groups))
 
   pub as_one_makes : (k : ℕ) (env : Env) → StandsAt texts env b on_row held → IsBelow k b.vector → Makes store (as_one b) k env FoldsNow
   as_one_makes k env stands below =
@@ -171,13 +165,13 @@ module _ (store : Env) (texts : List Bytes) (q : Clauses) (b : Base) (held : Hel
       (NowHas (vectors.column out (length held) (column zero_row held))) FoldsNow
       (nought_makes store k env b.vector stands.vector held (record { sees = stands.sees; below = below }) stands.holds.len (mark_slots texts on_row env b held stands))
       (λ nought next between more has kept.
-        let there = stands_later texts on_row k env between b held below kept stands in
-        let low = below_more k next b.vector more below in
-        makes_bind Label Folding store (one_run b.vector)
-        (λ runs. one_place (codes "first") out zeros >>= λ first. one_place (codes "groups") mark ones >>= λ groups. nought_at groups >>= λ zero. tell (record { rows = b; nought = nought; runs = runs; first = Some first; groups = marked_alone groups; zero = zero })) next between
-        (NowHas (ranged stands.vector.len run zeros)) FoldsNow
-        (makes_range_of store (codes "runs") next between refl b.vector run zeros stands.vector (record { sees = there.sees; below = low }))
-        (λ runs later after on has_runs left.
-          behind_runs later after nought runs (stands_later texts on_row next between after b held low left there) (below_more next later b.vector on low)
-          (gives_later next later between after held nought zero_row on left (gives_column next between held nought zero_row has))
-          (subst (λ (n : ℕ). Has later after runs (ranged n run zeros)) stands.holds.len has_runs)))
+      let there = stands_later texts on_row k env between b held below kept stands in
+      let low = below_more k next b.vector more below in
+      makes_bind Label Folding store (one_run b.vector)
+      (λ runs. one_place (codes "first") out zeros >>= λ first. one_place (codes "groups") mark ones >>= λ groups. nought_at groups >>= λ zero. tell (record { rows = b; nought = nought; runs = runs; first = Some first; groups = marked_alone groups; zero = zero })) next between
+      (NowHas (ranged stands.vector.len run zeros)) FoldsNow
+      (makes_range_of store (codes "runs") next between refl b.vector run zeros stands.vector (record { sees = there.sees; below = low }))
+      (λ runs later after on has_runs left.
+      behind_runs later after nought runs (stands_later texts on_row next between after b held low left there) (below_more next later b.vector on low)
+      (gives_later next later between after held nought zero_row on left (gives_column next between held nought zero_row has))
+      (subst (λ (n : ℕ). Has later after runs (ranged n run zeros)) stands.holds.len has_runs)))

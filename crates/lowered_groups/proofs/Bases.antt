@@ -1,22 +1,18 @@
 -- Groups that stand at a base, with an attribute more: a group column's, or an aggregate's.
-use Rattle.std.proofs.Common.{◌≡◌, ◌≢◌, ◌∙◌, ℕ, ◌+◌, ◌<◌, ◌≤◌, ◌^◌, Bool, true, false, ◌||◌, List, [], ◌∷◌, ◌++◌, length, map, get_or, refl, sym, ap, subst, arith, codes, Option, Some, None, eqb-true, decimal}
+use Rattle.std.proofs.Common.{◌≡◌, ◌≢◌, ◌∙◌, ℕ, ◌+◌, ◌<◌, ◌≤◌, ◌^◌, Bool, true, false, ◌||◌, List, [], ◌∷◌, ◌++◌, length, map, get_or, refl, sym, ap, subst, arith, codes, decimal}
 use Rattle.std.specs.Prelude.{◌==◌}
 use Rattle.std.specs.List.{All, list_any}
 use Rattle.std.proofs.lemmas.Bool.Decides.{nat_tests}
 use Rattle.std.proofs.lemmas.List.{map-append}
 use Rattle.std.proofs.lemmas.List.Elements.{All-nil, All-cons, All-head, All-tail, All-append, All-map, All-contains, All-contains_itself, Contains-append_left, Contains-append_right}
 use Rattle.std.proofs.lemmas.List.Folds.{list_any-append}
-use Rattle.control_vectors.specs.Slots.{Slot}
 use Rattle.key_paths.specs.Substructures.{is_at_or_below}
 use Rattle.programs.specs.Mentions.{Label}
 use Rattle.programs.specs.Vectors.{Vector, Env, slots_of}
 use Rattle.voodoo_ops.specs.Attributes.{upserted}
-use Rattle.typed_trees.specs.declared.typed.ColumnRef.{ColumnRef}
 use Rattle.typed_trees.specs.Names.{same_column}
 use Rattle.query_answers.specs.Answers.{Group}
 use Rattle.query_answers.specs.Clauses.{Clauses}
-use Rattle.expr_lower.specs.declared.places.AggregatePlace.{AggregatePlace}
-use Rattle.expr_lower.specs.declared.places.ColumnPlace.{ColumnPlace}
 use Rattle.expr_steps.specs.Lowered.{Bytes}
 use Rattle.held_groups.specs.Overs.{group_on}
 use Rattle.held_rows.specs.Held.{Held, Told, Holds, column, one}
@@ -26,7 +22,7 @@ use Rattle.program_writers.specs.Names.{IsBelow}
 use Rattle.program_writers.specs.Statements.{out, mark}
 use Rattle.program_writers.proofs.Numbers.{below_more}
 use Rattle.plan_lower.specs.Groups.{key_path, aggregate_path}
-use Rattle.plan_lower.specs.Sites.{Base, with_column, with_aggregate}
+use Rattle.plan_lower.specs.Sites.{Base, with_aggregate}
 use Rattle.writer_checks.proofs.Routes.{path_laws}
 use Rattle.lowered_stages.specs.Stages.{StandsAt, told_of, column_told, aggregate_told}
 use Rattle.lowered_groups.proofs.Folds.{stands_later}
@@ -174,14 +170,14 @@ module _ (texts : List Bytes) (q : Clauses) (gs : Held Group) (b : Base) (n : �
           holds = record {
             len = holds.len;
             each = subst (λ (l : List (Told Group)). All (SlotsAt v gs) ((mark, one) ∷ (columns ++ l))) (sym (map-append (aggregate_told texts on) b.aggregates (record { aggregate = n; path = aggregate_path n } ∷ [])))
-              (into_third (SlotsAt v gs) told (mark, one) columns aggregates holds.each);
+                (into_third (SlotsAt v gs) told (mark, one) columns aggregates holds.each);
           };
         };
         below = has.below;
         keys = g.keys;
         numbers =
-          all_last (λ p. IsAggregateBelow (n + 1) p.path) b.aggregates (record { aggregate = n; path = aggregate_path n })
-          (all_weaker (λ p. IsAggregateBelow n p.path) (λ p. IsAggregateBelow (n + 1) p.path) b.aggregates (λ p i. (i.0, omega (arith, i.1), i.2)) g.numbers) (n, omega arith, refl);
+            all_last (λ p. IsAggregateBelow (n + 1) p.path) b.aggregates (record { aggregate = n; path = aggregate_path n })
+            (all_weaker (λ p. IsAggregateBelow n p.path) (λ p. IsAggregateBelow (n + 1) p.path) b.aggregates (λ p i. (i.0, omega (arith, i.1), i.2)) g.numbers) (n, omega arith, refl);
         found = number_found g.found;
         columns = g.columns;
       }

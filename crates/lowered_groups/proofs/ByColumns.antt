@@ -1,5 +1,5 @@
 -- Groups by group columns: the runs of the sorted rows.
-use Rattle.std.proofs.Common.{◌≡◌, ◌∙◌, ℕ, min, ◌+◌, ◌<◌, ◌≤◌, ◌^◌, pos, true, false, ◌&&◌, List, [], ◌∷◌, ◌++◌, length, map, refl, sym, ap, subst, arith, append-nil, append_assoc, Option, Some, None, Result, Ok, codes}
+use Rattle.std.proofs.Common.{◌≡◌, ◌∙◌, ℕ, min, ◌+◌, ◌<◌, ◌≤◌, ◌^◌, true, false, ◌&&◌, List, [], ◌∷◌, ◌++◌, length, map, refl, sym, ap, subst, arith, append-nil, append_assoc, None, Result, Ok, codes}
 use Rattle.std.specs.Prelude.{slice_index_or}
 use Rattle.std.specs.List.{All, Contains, enumerate_from, list_any, range_with_len}
 use Rattle.std.proofs.lemmas.Bool.Decides.{Decides-eqb}
@@ -7,7 +7,7 @@ use Rattle.std.proofs.lemmas.List.{length-map, map-append}
 use Rattle.std.proofs.lemmas.List.Elements.{All-nil, All-cons, All-head, All-tail, All-append, All-map}
 use Rattle.control_vectors.specs.Runs as tuples
 use Rattle.control_vectors.specs.Runs.{side_by_side}
-use Rattle.control_vectors.specs.Slots.{Slot, Cell, all_slots, cells_of}
+use Rattle.control_vectors.specs.Slots.{Slot, Cell, all_slots}
 use Rattle.control_vectors.specs.declared.FoldKind.{FoldKind}
 use Rattle.control_vectors.specs.declared.FoldKind.TheVariants as number
 use Rattle.control_vectors.specs.declared.Over.{Over}
@@ -25,7 +25,7 @@ use Rattle.programs.specs.Vectors.{Vector, Env, slots_of, known, column_of}
 use Rattle.programs.specs.Vectors as vectors
 use Rattle.voodoo_ops.specs.Attributes.{projected, upserted}
 use Rattle.voodoo_ops.specs.Runs.{run_marks}
-use Rattle.voodoo_ops.specs.Slotwise.{paired, pair_cells}
+use Rattle.voodoo_ops.specs.Slotwise.{paired}
 use Rattle.typed_trees.specs.declared.typed.ColumnRef.{ColumnRef}
 use Rattle.typed_trees.specs.Names.{same_column}
 use Rattle.query_answers.specs.Answers.{FromRow, Group, on_row}
@@ -36,7 +36,7 @@ use Rattle.held_groups.specs.Groups.{column_slot, sorted_rows, run_slots}
 use Rattle.held_groups.specs.Heads.{group_places, run_fold, fits, zero_of, key_slot}
 use Rattle.held_groups.specs.Overs.{group_on}
 use Rattle.held_groups.proofs.Heads.{head_laws}
-use Rattle.held_rows.specs.Held.{Held, Holds, Told, at as at_row, present, column, one, packed}
+use Rattle.held_rows.specs.Held.{Held, Holds, Told, at as at_row, column, one, packed}
 use Rattle.held_rows.specs.Vectors.{IsBeside}
 use Rattle.held_rows.proofs.Projected.{project_holds}
 use Rattle.held_rows.proofs.Upserted.{first_slots, upsert_holds}
@@ -56,7 +56,7 @@ use Rattle.lowered_groups.proofs.Columns.{mark_slots, column_slots}
 use Rattle.lowered_groups.proofs.Folds.{Gives, fold_cell, stands_later}
 use Rattle.lowered_groups.proofs.Marks.{marks_stay}
 use Rattle.lowered_groups.proofs.Parts.{Has, Kept, NowHas, has_later, is_known, makes_upsert, makes_project, delivers_fold, delivers_pair}
-use Rattle.lowered_groups.proofs.RunSlots.{run_mark, AreRuns, first_runs, more_runs, marks_are}
+use Rattle.lowered_groups.proofs.RunSlots.{run_mark, AreRuns, first_runs, more_runs}
 use Rattle.lowered_groups.proofs.SortedRows.{IsClear}
 
 -- a column of the base has a place
@@ -84,10 +84,10 @@ module _ (store : Env) (texts : List Bytes) (kept : Held FromRow) where
         (NowHas v) (RunsAt (j + length (c ∷ cs)) (done ++ c ∷ cs))
         (makes_upsert store (codes "runs") k env refl name (run_path j) rows.vector (path_in rows c) r.vector at.vector r.has (record { sees = at.sees; below = below }))
         (λ runs next between more has left.
-          subst (λ (m : ℕ). Makes store (through (run_by rows) runs (enumerate_from (j + 1) cs)) next between (RunsAt m (done ++ c ∷ cs))) (omega arith)
-          (subst (λ (l : List ColumnRef). Makes store (through (run_by rows) runs (enumerate_from (j + 1) cs)) next between (RunsAt (j + 1 + length cs) l)) (append_assoc done (c ∷ []) cs)
-          (runs_loop cs (done ++ c ∷ []) (j + 1) runs next between (stands_later texts on_row k env between rows kept below left at) (below_more k next rows.vector more below)
-          (All-tail (HasPlace rows) c cs can) (omega (arith, few)) (record { vector = v; has = has; runs = grown }))))
+        subst (λ (m : ℕ). Makes store (through (run_by rows) runs (enumerate_from (j + 1) cs)) next between (RunsAt m (done ++ c ∷ cs))) (omega arith)
+        (subst (λ (l : List ColumnRef). Makes store (through (run_by rows) runs (enumerate_from (j + 1) cs)) next between (RunsAt (j + 1 + length cs) l)) (append_assoc done (c ∷ []) cs)
+        (runs_loop cs (done ++ c ∷ []) (j + 1) runs next between (stands_later texts on_row k env between rows kept below left at) (below_more k next rows.vector more below)
+        (All-tail (HasPlace rows) c cs can) (omega (arith, few)) (record { vector = v; has = has; runs = grown }))))
 
     pub runs_make : (columns : List ColumnRef) (k : ℕ) (env : Env) (at : StandsAt texts env rows on_row kept) → IsBelow k rows.vector → IsClear at.vector → All (HasPlace rows) columns → length columns ≤ 4
         → Makes store (runs_of rows columns) k env (RunsAt (length columns) columns)
@@ -98,8 +98,8 @@ module _ (store : Env) (texts : List Bytes) (kept : Held FromRow) where
         (NowHas v) (RunsAt (length columns) columns)
         (makes_project store (codes "runs") k env refl rows.vector mark (codes ".run.mark") at.vector (record { sees = at.sees; below = below }))
         (λ runs next between more has left.
-          subst (λ (m : ℕ). Makes store (through (run_by rows) runs (enumerate_from 0 columns)) next between (RunsAt m columns)) (omega arith)
-          (runs_loop columns [] 0 runs next between (stands_later texts on_row k env between rows kept below left at) (below_more k next rows.vector more below) can (omega (arith, few)) (record { vector = v; has = has; runs = start })))
+        subst (λ (m : ℕ). Makes store (through (run_by rows) runs (enumerate_from 0 columns)) next between (RunsAt m columns)) (omega arith)
+        (runs_loop columns [] 0 runs next between (stands_later texts on_row k env between rows kept below left at) (below_more k next rows.vector more below) can (omega (arith, few)) (record { vector = v; has = has; runs = start })))
 
 -- ---- the groups of the runs
 
@@ -149,14 +149,14 @@ module _ (store : Env) (texts : List Bytes) (columns front behind : List ColumnR
         (NowHas u) GroupsMarked
         (makes_upsert store (codes "marks") k env refl runs val rows.vector mark v at.vector has_runs (record { sees = at.sees; below = below }))
         (λ marks next between more has left.
-          makes_bind Label Label store (make (codes "firsts") (fold_of fold.Max (fold_args marks))) (λ firsts. make (codes "groups") (op.Project firsts out mark)) next between
-          (NowHas w) GroupsMarked
-          (subst (λ (r : Result Vector Over). Delivers store (make (codes "firsts") (fold_of fold.Max (fold_args marks))) next between r NowHas)
-          (firsts_are u len (marks_stay v at.vector mark) (All-head (λ t. slots_of u.attributes t.0 ≡ column t.1 sorted_kept) (val, one) [] holds.each))
-          (delivers_fold store (codes "firsts") next between refl fold.Max (fold_args marks) u has))
-          (λ firsts later after on done gone.
-            now_marked later after
-            (makes_project store (codes "groups") later after refl firsts out mark w done)))
+        makes_bind Label Label store (make (codes "firsts") (fold_of fold.Max (fold_args marks))) (λ firsts. make (codes "groups") (op.Project firsts out mark)) next between
+        (NowHas w) GroupsMarked
+        (subst (λ (r : Result Vector Over). Delivers store (make (codes "firsts") (fold_of fold.Max (fold_args marks))) next between r NowHas)
+        (firsts_are u len (marks_stay v at.vector mark) (All-head (λ t. slots_of u.attributes t.0 ≡ column t.1 sorted_kept) (val, one) [] holds.each))
+        (delivers_fold store (codes "firsts") next between refl fold.Max (fold_args marks) u has))
+        (λ firsts later after on done gone.
+        now_marked later after
+        (makes_project store (codes "groups") later after refl firsts out mark w done)))
       where
         now_marked : (l : ℕ) (e : Env) {m : Writer Label} → Makes store m l e (NowHas (projected (vectors.column out n (column one groups_at)) out mark)) → Makes store m l e GroupsMarked
         now_marked l e {m} g = record {
@@ -225,15 +225,15 @@ module _ (store : Env) (texts : List Bytes) (columns front behind : List ColumnR
             holds = record {
               len = holds.len;
               each = subst (λ (l : List (Told Group)). All (SlotsAt v groups_at) ((mark, one) ∷ (l ++ map (aggregate_told texts on) b.aggregates))) (sym (map-append (column_told texts on) b.columns (place ∷ [])))
-                (into_second (SlotsAt v groups_at) told (mark, one) (map (column_told texts on) b.columns) (map (aggregate_told texts on) b.aggregates) holds.each);
+                  (into_second (SlotsAt v groups_at) told (mark, one) (map (column_told texts on) b.columns) (map (aggregate_told texts on) b.aggregates) holds.each);
             };
           };
           below = has.below;
           numbers = all_last (λ p. IsKeyBelow (j + 1) p.path) b.columns place (all_weaker (λ p. IsKeyBelow j p.path) (λ p. IsKeyBelow (j + 1) p.path) b.columns (λ p i. (i.0, omega (arith, i.1), i.2)) s.numbers) (j, omega arith, refl);
           none = s.none;
           found = all_last (HasPlace (with_column name c (key_path j) b)) done c
-            (all_weaker (HasPlace b) (HasPlace (with_column name c (key_path j) b)) done (λ g h. still_any (λ p. same_column p.column g) b.columns place h) s.found)
-            (with_last (λ p. same_column p.column c) b.columns place (same_itself c));
+              (all_weaker (HasPlace b) (HasPlace (with_column name c (key_path j) b)) done (λ g h. still_any (λ p. same_column p.column g) b.columns place h) s.found)
+              (with_last (λ p. same_column p.column c) b.columns place (same_itself c));
         }
       where
         same_itself : (c : ColumnRef) → same_column c c ≡ true
@@ -262,13 +262,13 @@ module _ (store : Env) (texts : List Bytes) (columns front behind : List ColumnR
           (made ∙ ap (λ (x : Vector). Ok x) same_u)
           (delivers_pair store (codes "key") k env refl pair.Add (record { x = Column zero out; y = Column rows.vector (path_in rows c); out = out })))
           (λ key next between more has left.
-            let t = keys_later j done b k next env between more left s in
-            makes_bind Label Base store (make (codes "groups") (with_attribute b.vector (key_path j) key out)) (λ vector. tell (with_column vector c (key_path j) b)) next between
-            (NowHas (upserted s.stands.vector (key_path j) u out)) (λ d next after. KeysAt (j + 1) (done ++ c ∷ []) d next after)
-            (makes_upsert store (codes "groups") next between refl b.vector (key_path j) key out s.stands.vector u (record { sees = left b.vector s.below ∙ s.stands.sees; below = below_more k next b.vector more s.below }) has)
-            (λ vector later after on done_has gone.
-              makes_tell Base store (with_column vector c (key_path j) b) later after (λ d next after. KeysAt (j + 1) (done ++ c ∷ []) d next after)
-              (key_put j done c k later env after b vector small s done_has)))
+          let t = keys_later j done b k next env between more left s in
+          makes_bind Label Base store (make (codes "groups") (with_attribute b.vector (key_path j) key out)) (λ vector. tell (with_column vector c (key_path j) b)) next between
+          (NowHas (upserted s.stands.vector (key_path j) u out)) (λ d next after. KeysAt (j + 1) (done ++ c ∷ []) d next after)
+          (makes_upsert store (codes "groups") next between refl b.vector (key_path j) key out s.stands.vector u (record { sees = left b.vector s.below ∙ s.stands.sees; below = below_more k next b.vector more s.below }) has)
+          (λ vector later after on done_has gone.
+          makes_tell Base store (with_column vector c (key_path j) b) later after (λ d next after. KeysAt (j + 1) (done ++ c ∷ []) d next after)
+          (key_put j done c k later env after b vector small s done_has)))
 
       pub keys_make : (cs done : List ColumnRef) (j : ℕ) (b : Base) (k : ℕ) (env : Env) → j + length cs ≤ 4 → ((c : ColumnRef) → Contains cs c → Contains columns c) → All (HasPlace rows) cs → StandsAt texts env rows on_row sorted_kept → IsBelow k rows.vector → Gives k env groups_at zero zero_of → KeysAt j done b k env
           → Makes store (through (key_of rows zero) b (enumerate_from j cs)) k env (λ d next after. KeysAt (j + length cs) (done ++ cs) d next after)
@@ -280,8 +280,8 @@ module _ (store : Env) (texts : List Bytes) (columns front behind : List ColumnR
           (λ d next after. KeysAt (j + 1) (done ++ c ∷ []) d next after) (λ d next after. KeysAt (j + length (c ∷ cs)) (done ++ c ∷ cs) d next after)
           (key_make j done c b k env (omega (arith, few)) (among c (here c cs)) (All-head (HasPlace rows) c cs can) at below gives s)
           (λ d next between more t left.
-            subst (λ (m : ℕ). Makes store (through (key_of rows zero) d (enumerate_from (j + 1) cs)) next between (λ e l after. KeysAt m (done ++ c ∷ cs) e l after)) (omega arith)
-            (subst (λ (l : List ColumnRef). Makes store (through (key_of rows zero) d (enumerate_from (j + 1) cs)) next between (λ e m after. KeysAt (j + 1 + length cs) l e m after)) (append_assoc done (c ∷ []) cs)
-            (keys_make cs (done ++ c ∷ []) (j + 1) d next between (omega (arith, few)) (λ x h. among x (there c x cs h)) (All-tail (HasPlace rows) c cs can)
-            (stands_later texts on_row k env between rows sorted_kept below left at) (below_more k next rows.vector more below)
-            (record { vector = gives.vector; has = has_later k next env between zero gives.vector more left gives.has; len = gives.len; slots = gives.slots }) t)))
+          subst (λ (m : ℕ). Makes store (through (key_of rows zero) d (enumerate_from (j + 1) cs)) next between (λ e l after. KeysAt m (done ++ c ∷ cs) e l after)) (omega arith)
+          (subst (λ (l : List ColumnRef). Makes store (through (key_of rows zero) d (enumerate_from (j + 1) cs)) next between (λ e m after. KeysAt (j + 1 + length cs) l e m after)) (append_assoc done (c ∷ []) cs)
+          (keys_make cs (done ++ c ∷ []) (j + 1) d next between (omega (arith, few)) (λ x h. among x (there c x cs h)) (All-tail (HasPlace rows) c cs can)
+          (stands_later texts on_row k env between rows sorted_kept below left at) (below_more k next rows.vector more below)
+          (record { vector = gives.vector; has = has_later k next env between zero gives.vector more left gives.has; len = gives.len; slots = gives.slots }) t)))

@@ -1,11 +1,9 @@
 -- The columns of rows that stand at a base.
-use Rattle.std.proofs.Common.{◌≡◌, ◌∙◌, ℕ, Bool, true, false, ◌&&◌, ◌||◌, List, [], ◌∷◌, ◌++◌, map, refl, sym, ap, subst, eqb-true}
+use Rattle.std.proofs.Common.{◌≡◌, ◌∙◌, Bool, true, false, ◌||◌, List, [], ◌∷◌, ◌++◌, map, refl, sym, ap, eqb-true}
 use Rattle.std.specs.Prelude.{if◌then◌else◌, ◌==◌}
 use Rattle.std.specs.List.{All, list_any}
 use Rattle.std.proofs.lemmas.Bool.{and_parts, false≢true}
 use Rattle.std.proofs.lemmas.List.Elements.{All-head, All-tail}
-use Rattle.control_vectors.specs.Slots.{Slot}
-use Rattle.programs.specs.Mentions.{Label}
 use Rattle.programs.specs.Vectors.{Vector, Env, slots_of}
 use Rattle.table_load.specs.Databases.{coded}
 use Rattle.typed_trees.specs.declared.typed.ColumnRef.{ColumnRef}
@@ -14,10 +12,10 @@ use Rattle.typed_values.specs.Values.{On}
 use Rattle.expr_lower.specs.declared.places.ColumnPlace.{ColumnPlace}
 use Rattle.expr_lower.specs.Statements.{column_path}
 use Rattle.expr_steps.specs.Lowered.{Bytes}
-use Rattle.held_rows.specs.Held.{Held, Told, Holds, column, one}
+use Rattle.held_rows.specs.Held.{Held, Told, column, one}
 use Rattle.program_writers.specs.Statements.{mark}
 use Rattle.plan_lower.specs.Sites.{Base, path_in}
-use Rattle.lowered_stages.specs.Stages.{column_told, aggregate_told, told_of, StandsAt}
+use Rattle.lowered_stages.specs.Stages.{column_told, aggregate_told, StandsAt}
 
 pub same_is : (c d : ColumnRef) → same_column c d ≡ true → c ≡ d
 same_is c d h =

@@ -1,7 +1,6 @@
 -- Folds over the runs of rows: what each gives stands where the groups stand.
 use Rattle.std.proofs.Common.{◌≡◌, ◌∙◌, ℕ, ◌≤◌, pos, Bool, true, List, [], ◌∷◌, length, map, get_or, refl, sym, ap, subst, Option, Some, None, Result, Ok, Err, codes}
 use Rattle.std.specs.Prelude.{slice_index_or}
-use Rattle.std.specs.List.{All}
 use Rattle.std.proofs.lemmas.List.Elements.{All-head, All-nil}
 use Rattle.control_vectors.specs.Folds.{fold_slots}
 use Rattle.control_vectors.specs.Slots.{Slot, Cell, all_slots}
@@ -11,7 +10,6 @@ use Rattle.control_vectors.specs.declared.Over.{Over}
 use Rattle.control_vectors.specs.declared.PairKind.{PairKind}
 use Rattle.slot_folds.specs.Folds.{folded}
 use Rattle.programs.specs.declared.family.FoldOperator.{FoldOperator}
-use Rattle.programs.specs.declared.family.FoldOperator.TheVariants as fold
 use Rattle.programs.specs.declared.op.FoldArgs.{FoldArgs}
 use Rattle.programs.specs.declared.op.Operand.TheVariants.{Column}
 use Rattle.programs.specs.Mentions.{Label}
@@ -20,14 +18,13 @@ use Rattle.programs.specs.Vectors as vectors
 use Rattle.voodoo_ops.specs.Attributes.{upserted}
 use Rattle.voodoo_ops.specs.Folds as ops
 use Rattle.voodoo_ops.specs.Runs.{run_marks}
-use Rattle.voodoo_ops.specs.Slotwise.{paired}
 use Rattle.typed_values.specs.Values.{On}
 use Rattle.query_answers.specs.Answers.{FromRow, Group, on_row}
 use Rattle.expr_steps.specs.Lowered.{Bytes}
 use Rattle.held_groups.specs.Heads.{zero_of}
-use Rattle.held_rows.specs.Held.{Held, present, at, column, Holds}
+use Rattle.held_rows.specs.Held.{Held, at, column, Holds}
 use Rattle.held_rows.specs.Laws.{both_at}
-use Rattle.held_rows.specs.Vectors.{Tells, AreSlots}
+use Rattle.held_rows.specs.Vectors.{Tells}
 use Rattle.held_rows.proofs.Paired.{pair_laws}
 use Rattle.held_rows.proofs.Upserted.{first_slots, upsert_holds}
 use Rattle.held_runs.specs.Laws.{one_cell}
@@ -44,7 +41,7 @@ use Rattle.writer_runs.proofs.Composed.{makes_tell}
 use Rattle.lowered_stages.specs.Stages.{StandsAt}
 use Rattle.lowered_groups.proofs.Cells.{cells, absorbed, first_of, first_over_of}
 use Rattle.lowered_groups.proofs.Marks.{marks_stay}
-use Rattle.lowered_groups.proofs.Parts.{Has, Kept, has_later, is_known, NowHas, delivers_after, delivers_then, delivers_weaker, makes_upsert, makes_gather, delivers_fold, delivers_pair}
+use Rattle.lowered_groups.proofs.Parts.{Has, Kept, has_later, is_known, NowHas, delivers_after, delivers_then, makes_upsert, makes_gather, delivers_fold, delivers_pair}
 
 -- ---- columns of what stands at places
 
@@ -206,11 +203,11 @@ module _ (store : Env) (texts : List Bytes) (f : Folding) (rows : Held FromRow) 
       (NowHas (upserted i.runs val gives.vector out)) (all_slots (cells (fold_cell kind g) gs)) (NowCells gs)
       (makes_upsert store (codes "values") k env refl f.runs val value out i.runs gives.vector i.runs_has gives.has)
       (λ values next between more has kept.
-        let j = folding_later texts k next env between f rows gs more kept i in
-        let runs_folded = all_slots (folded kind (run_marks i.runs run) (column g rows)) in
-        subst (λ (r : Result (List Slot) Over). Delivers store (make (codes "fold") (fold_of op (fold_args values)) >>= collected f.first) next between r (NowCells gs))
-        (absorbed runs_folded (all_slots (cells (fold_cell kind g) gs)) (λ e over. collected_over next between f.first rows gs (run_marks i.runs run) kind g e j.folds over))
-        (delivers_then store (make (codes "fold") (fold_of op (fold_args values))) (collected f.first) next between runs_folded (λ xs. NowHas (vectors.column out (length rows) xs)) (λ xs. all_slots (cells (fold_cell kind g) gs)) (NowCells gs)
-        (fold_makes next between j op kind same values gives.vector g gives.slots has)
-        (λ xs e fold later after on here left.
-          collected_makes store f.first fold later after rows gs (run_marks i.runs run) kind g xs (collects_later next later between after f.first rows gs (run_marks i.runs run) on left j.folds) e here)))
+      let j = folding_later texts k next env between f rows gs more kept i in
+      let runs_folded = all_slots (folded kind (run_marks i.runs run) (column g rows)) in
+      subst (λ (r : Result (List Slot) Over). Delivers store (make (codes "fold") (fold_of op (fold_args values)) >>= collected f.first) next between r (NowCells gs))
+      (absorbed runs_folded (all_slots (cells (fold_cell kind g) gs)) (λ e over. collected_over next between f.first rows gs (run_marks i.runs run) kind g e j.folds over))
+      (delivers_then store (make (codes "fold") (fold_of op (fold_args values))) (collected f.first) next between runs_folded (λ xs. NowHas (vectors.column out (length rows) xs)) (λ xs. all_slots (cells (fold_cell kind g) gs)) (NowCells gs)
+      (fold_makes next between j op kind same values gives.vector g gives.slots has)
+      (λ xs e fold later after on here left.
+      collected_makes store f.first fold later after rows gs (run_marks i.runs run) kind g xs (collects_later next later between after f.first rows gs (run_marks i.runs run) on left j.folds) e here)))

@@ -1,63 +1,42 @@
 -- The groups of rows, with the values of their aggregates.
-use Rattle.std.proofs.Common.{◌≡◌, ◌∙◌, ℕ, ◌+◌, ◌<◌, ◌≤◌, ◌^◌, pos, Bool, true, false, List, [], ◌∷◌, ◌++◌, length, map, get_or, refl, sym, ap, subst, arith, Option, Some, None, Result, Ok, Err, codes}
-use Rattle.std.specs.Prelude.{◌==◌, is_err}
-use Rattle.std.specs.Option.{ForSome, option_map}
+use Rattle.std.proofs.Common.{◌≡◌, ◌∙◌, ℕ, ◌≤◌, true, List, [], ◌∷◌, ◌++◌, length, map, refl, sym, ap, subst, arith, None}
+use Rattle.std.specs.Prelude.{is_err}
 use Rattle.std.specs.List.{All, Contains, enumerate_from, list_any}
-use Rattle.std.proofs.lemmas.List.{length-map}
-use Rattle.std.proofs.lemmas.List.Elements.{All-nil, All-head, All-tail, All-cons, All-append, All-map, All-contains, All-contains_itself}
+use Rattle.std.proofs.lemmas.List.Elements.{All-nil, All-head}
 use Rattle.control_vectors.specs.Runs as tuples
 use Rattle.control_vectors.specs.Runs.{side_by_side}
-use Rattle.control_vectors.specs.Slots.{Slot, over}
-use Rattle.control_vectors.specs.declared.Over.{Over}
-use Rattle.programs.specs.Faults.{path_clash}
-use Rattle.programs.specs.Mentions.{Label, has_name}
-use Rattle.programs.specs.Outlines.{Outline, outlines, outline_of}
+use Rattle.programs.specs.Mentions.{Label}
 use Rattle.programs.specs.Vectors.{Vector, Env, slots_of}
 use Rattle.programs.specs.Vectors as vectors
-use Rattle.programs.proofs.Projections.{apart_clear}
 use Rattle.voodoo_ops.specs.Runs.{run_marks}
-use Rattle.sql_values.specs.Values.{Value}
-use Rattle.table_load.specs.Databases.{coded}
-use Rattle.typed_trees.specs.declared.typed.Aggregate.{Aggregate}
 use Rattle.typed_trees.specs.declared.typed.ColumnRef.{ColumnRef}
-use Rattle.typed_trees.specs.declared.typed.TypedExpr.{TypedExpr}
 use Rattle.typed_trees.specs.Names.{same_column}
-use Rattle.typed_trees.specs.Types.{no_aggregate, aggregate_type}
-use Rattle.typed_values.specs.Values.{Valued, On}
-use Rattle.value_laws.specs.Laws.{KindLaw}
-use Rattle.query_answers.specs.Answers.{FromRow, Group, column_value, groups_of, on_group, on_row}
+use Rattle.query_answers.specs.Answers.{FromRow, Group, groups_of, on_row}
 use Rattle.query_answers.specs.Clauses.{Clauses}
 use Rattle.query_answers.specs.Overs.{each}
 use Rattle.expr_steps.specs.Lowered.{Bytes}
-use Rattle.expr_values.specs.Laws.{KnownLaw}
-use Rattle.held_groups.specs.Groups.{AreSame, CanCode, column_slot, RowsCanCode, run_slots, sorted_rows}
+use Rattle.held_groups.specs.Groups.{AreSame, column_slot, run_slots, sorted_rows}
 use Rattle.held_groups.specs.Heads.{group_places, fits, zero_of}
-use Rattle.held_groups.specs.Overs.{group_on, some_over}
-use Rattle.held_groups.proofs.Heads.{head_laws}
 use Rattle.held_groups.proofs.Members.{group_rows}
-use Rattle.held_groups.proofs.Overs.{groups_on_law}
-use Rattle.held_rows.specs.Held.{Held, Holds, Told, at as at_row, present, column, one, packed}
+use Rattle.held_rows.specs.Held.{Held, present, column, one, packed}
 use Rattle.program_writers.specs.Names.{IsBelow}
 use Rattle.program_writers.specs.Statements.{out, mark, run}
-use Rattle.program_writers.specs.Writers.{Writer, tell, ◌>>=◌, through}
+use Rattle.program_writers.specs.Writers.{tell, ◌>>=◌, through}
 use Rattle.program_writers.proofs.Numbers.{below_more}
-use Rattle.plan_lower.specs.Groups.{Folding, nought_at, sorted, runs_of, run_groups, key_of, by_columns, as_one, folding, aggregate_of, grouped}
+use Rattle.plan_lower.specs.Groups.{Folding, nought_at, sorted, runs_of, run_groups, key_of, by_columns, folding}
 use Rattle.plan_lower.specs.Sites.{Base, marked_alone}
-use Rattle.writer_checks.specs.Checks.{HasShape}
-use Rattle.writer_runs.specs.Runs.{Makes, Delivers, Sees}
+use Rattle.writer_runs.specs.Runs.{Makes}
 use Rattle.writer_runs.proofs.Composed.{makes_tell, makes_bind}
-use Rattle.lowered_stages.specs.Stages.{StandsAt, Stands, told_of}
-use Rattle.lowered_stages.specs.Parts.{CanGroup, CanGroupRows, CanValue, CanValueAll, SamePlaces, AreAlike, fits_slot, itself}
-use Rattle.lowered_groups.specs.Laws.{ValueOfRows, GroupsRun}
-use Rattle.lowered_groups.proofs.Aggregates.{CanAggregate, all_made, aggregates_make}
+use Rattle.lowered_stages.specs.Stages.{StandsAt}
+use Rattle.lowered_stages.specs.Parts.{SamePlaces}
 use Rattle.lowered_groups.proofs.AsOne.{Folds, nought_makes, one_group, one_regroups, as_one_makes}
-use Rattle.lowered_groups.proofs.Bases.{IsAggregateBelow, IsGroups, IsKeyBelow, IsKeyPath, all_weaker}
-use Rattle.lowered_groups.proofs.ByColumns.{HasPlace, RunsAt, runs_make, groups_at, groups_long, sorted_kept, cells_of_groups, GroupsMarked, run_groups_make, KeysAt, keys_make}
+use Rattle.lowered_groups.proofs.Bases.{IsAggregateBelow, IsKeyBelow, IsKeyPath, all_weaker}
+use Rattle.lowered_groups.proofs.ByColumns.{HasPlace, RunsAt, runs_make, groups_long, cells_of_groups, GroupsMarked, run_groups_make, KeysAt, keys_make}
 use Rattle.lowered_groups.proofs.Columns.{mark_slots}
-use Rattle.lowered_groups.proofs.Folds.{Gives, gives_column, gives_later, zero_row, IsFolding, stands_later}
-use Rattle.lowered_groups.proofs.Parts.{Has, Kept, NowHas, has_later, delivers_after, delivers_weaker}
+use Rattle.lowered_groups.proofs.Folds.{Gives, gives_column, gives_later, zero_row, stands_later}
+use Rattle.lowered_groups.proofs.Parts.{Has, NowHas, has_later}
 use Rattle.lowered_groups.proofs.RunSlots.{marks_are}
-use Rattle.lowered_groups.proofs.SortedRows.{IsClear, names_of, SortedAt, sorted_makes, sorted_length, present_few, present_packed}
+use Rattle.lowered_groups.proofs.SortedRows.{IsClear, SortedAt, sorted_makes, sorted_length, present_few, present_packed}
 use Rattle.lowered_groups.proofs.Values.{Regroups}
 
 -- groups at some places, and what folds give there
@@ -155,26 +134,26 @@ module _ (store : Env) (texts : List Bytes) (q : Clauses) (b : Base) (held : Hel
         (NowHas (vectors.column out (length gs) (column zero_of gs))) Grouped
         (nought_makes store k env vector m.vector gs m.has m.holds.len (All-head (λ t. slots_of m.vector.attributes t.0 ≡ column t.1 gs) (mark, one) [] m.holds.each))
         (λ zero next between more has left.
-          let there = stands_later texts on_row k env between rows kept_rows below left at in
-          let low = below_more k next rows.vector more below in
-          let gives = gives_column next between gs zero zero_of has in
-          let start : KeysAt store texts q.groups front behind n all_rows few q refl long can.fit 0 [] (marked_alone vector) next between = record {
-            stands = record { vector = m.vector; sees = left vector m.has.below ∙ m.has.sees; holds = m.holds };
-            below = below_more k next vector more m.has.below;
-            numbers = All-nil _;
-            none = refl;
-            found = All-nil _;
-          } in
-          makes_bind Base Folding store (through (key_of rows zero) (marked_alone vector) (enumerate_from 0 q.groups)) (λ groups. tell (record { rows = rows; nought = nought; runs = runs; first = None; groups = groups; zero = zero })) next between
-          (λ d l after. KeysAt store texts q.groups front behind n all_rows few q refl long can.fit (length q.groups) q.groups d l after) Grouped
-          (subst (λ (j : ℕ). Makes store (through (key_of rows zero) (marked_alone vector) (enumerate_from 0 q.groups)) next between (λ d l after. KeysAt store texts q.groups front behind n all_rows few q refl long can.fit j q.groups d l after)) (omega arith)
-          (keys_make store texts q.groups front behind n all_rows few q refl long can.fit rows zero q.groups [] 0 (marked_alone vector) next between (omega (arith, can.few)) (λ c h. h) has_places there low gives start))
-          (λ groups later after on s gone.
-            let naught_now = gives_later next later between after kept_rows nought zero_row on gone (gives_later k next env between kept_rows nought zero_row more left none) in
-            let runs_now = has_later next later between after runs r.vector on gone (has_later k next env between runs r.vector more left r.has) in
-            makes_tell Folding store (record { rows = rows; nought = nought; runs = runs; first = None; groups = groups; zero = zero }) later after Grouped
-            (behind_keys nought runs zero front behind r.runs.same r.vector r.runs.len (marks_are texts kept_rows (length q.groups) q.groups r.vector r.runs) later after
-            (stands_later texts on_row next between after rows kept_rows low gone there) (below_more next later rows.vector on low) naught_now runs_now (gives_later next later between after gs zero zero_of on gone gives) groups s)))
+        let there = stands_later texts on_row k env between rows kept_rows below left at in
+        let low = below_more k next rows.vector more below in
+        let gives = gives_column next between gs zero zero_of has in
+        let start : KeysAt store texts q.groups front behind n all_rows few q refl long can.fit 0 [] (marked_alone vector) next between = record {
+          stands = record { vector = m.vector; sees = left vector m.has.below ∙ m.has.sees; holds = m.holds };
+          below = below_more k next vector more m.has.below;
+          numbers = All-nil _;
+          none = refl;
+          found = All-nil _;
+        } in
+        makes_bind Base Folding store (through (key_of rows zero) (marked_alone vector) (enumerate_from 0 q.groups)) (λ groups. tell (record { rows = rows; nought = nought; runs = runs; first = None; groups = groups; zero = zero })) next between
+        (λ d l after. KeysAt store texts q.groups front behind n all_rows few q refl long can.fit (length q.groups) q.groups d l after) Grouped
+        (subst (λ (j : ℕ). Makes store (through (key_of rows zero) (marked_alone vector) (enumerate_from 0 q.groups)) next between (λ d l after. KeysAt store texts q.groups front behind n all_rows few q refl long can.fit j q.groups d l after)) (omega arith)
+        (keys_make store texts q.groups front behind n all_rows few q refl long can.fit rows zero q.groups [] 0 (marked_alone vector) next between (omega (arith, can.few)) (λ c h. h) has_places there low gives start))
+        (λ groups later after on s gone.
+        let naught_now = gives_later next later between after kept_rows nought zero_row on gone (gives_later k next env between kept_rows nought zero_row more left none) in
+        let runs_now = has_later next later between after runs r.vector on gone (has_later k next env between runs r.vector more left r.has) in
+        makes_tell Folding store (record { rows = rows; nought = nought; runs = runs; first = None; groups = groups; zero = zero }) later after Grouped
+        (behind_keys nought runs zero front behind r.runs.same r.vector r.runs.len (marks_are texts kept_rows (length q.groups) q.groups r.vector r.runs) later after
+        (stands_later texts on_row next between after rows kept_rows low gone there) (below_more next later rows.vector on low) naught_now runs_now (gives_later next later between after gs zero zero_of on gone gives) groups s)))
 
     behind_runs : (nought runs : Label) (k : ℕ) (env : Env) → StandsAt texts env rows on_row kept_rows → IsBelow k rows.vector → Gives k env kept_rows nought zero_row → RunsAt store texts kept_rows (length q.groups) q.groups runs k env
         → Makes store (run_groups rows runs >>= λ vector. nought_at vector >>= λ zero. through (key_of rows zero) (marked_alone vector) (enumerate_from 0 q.groups) >>= λ groups. tell (record { rows = rows; nought = nought; runs = runs; first = None; groups = groups; zero = zero })) k env Grouped
@@ -186,8 +165,8 @@ module _ (store : Env) (texts : List Bytes) (q : Clauses) (b : Base) (held : Hel
         (GroupsMarked store texts q.groups front behind n all_rows (present_few held) r.vector long marks) Grouped
         (run_groups_make store texts q.groups front behind n all_rows (present_few held) r.vector long marks rows runs k env at below r.has (r.runs.len ∙ long))
         (λ vector next between more m left.
-          behind_groups nought runs vector next between (stands_later texts on_row k env between rows kept_rows below left at) (below_more k next rows.vector more below) (gives_later k next env between kept_rows nought zero_row more left none)
-          (record { vector = r.vector; has = has_later k next env between runs r.vector more left r.has; runs = r.runs }) m)
+        behind_groups nought runs vector next between (stands_later texts on_row k env between rows kept_rows below left at) (below_more k next rows.vector more below) (gives_later k next env between kept_rows nought zero_row more left none)
+        (record { vector = r.vector; has = has_later k next env between runs r.vector more left r.has; runs = r.runs }) m)
 
     behind_sorted : (k : ℕ) (env : Env) (at : StandsAt texts env rows on_row kept_rows) → IsBelow k rows.vector → IsClear at.vector
         → Makes store (nought_at rows.vector >>= λ nought. runs_of rows q.groups >>= λ runs. run_groups rows runs >>= λ vector. nought_at vector >>= λ zero. through (key_of rows zero) (marked_alone vector) (enumerate_from 0 q.groups) >>= λ groups. tell (record { rows = rows; nought = nought; runs = runs; first = None; groups = groups; zero = zero })) k env Grouped
@@ -196,14 +175,14 @@ module _ (store : Env) (texts : List Bytes) (q : Clauses) (b : Base) (held : Hel
         (NowHas (vectors.column out (length kept_rows) (column zero_row kept_rows))) Grouped
         (nought_makes store k env rows.vector at.vector kept_rows (record { sees = at.sees; below = below }) at.holds.len (mark_slots texts on_row env rows kept_rows at))
         (λ nought next between more has left.
-          let there = stands_later texts on_row k env between rows kept_rows below left at in
-          let low = below_more k next rows.vector more below in
-          makes_bind Label Folding store (runs_of rows q.groups) (λ runs. run_groups rows runs >>= λ vector. nought_at vector >>= λ zero. through (key_of rows zero) (marked_alone vector) (enumerate_from 0 q.groups) >>= λ groups. tell (record { rows = rows; nought = nought; runs = runs; first = None; groups = groups; zero = zero })) next between
-          (RunsAt store texts kept_rows (length q.groups) q.groups) Grouped
-          (runs_make store texts kept_rows rows q.groups next between there low clear has_places can.few)
-          (λ runs later after on r gone.
-            behind_runs nought runs later after (stands_later texts on_row next between after rows kept_rows low gone there) (below_more next later rows.vector on low)
-            (gives_later next later between after kept_rows nought zero_row on gone (gives_column next between kept_rows nought zero_row has)) r))
+        let there = stands_later texts on_row k env between rows kept_rows below left at in
+        let low = below_more k next rows.vector more below in
+        makes_bind Label Folding store (runs_of rows q.groups) (λ runs. run_groups rows runs >>= λ vector. nought_at vector >>= λ zero. through (key_of rows zero) (marked_alone vector) (enumerate_from 0 q.groups) >>= λ groups. tell (record { rows = rows; nought = nought; runs = runs; first = None; groups = groups; zero = zero })) next between
+        (RunsAt store texts kept_rows (length q.groups) q.groups) Grouped
+        (runs_make store texts kept_rows rows q.groups next between there low clear has_places can.few)
+        (λ runs later after on r gone.
+        behind_runs nought runs later after (stands_later texts on_row next between after rows kept_rows low gone there) (below_more next later rows.vector on low)
+        (gives_later next later between after kept_rows nought zero_row on gone (gives_column next between kept_rows nought zero_row has)) r))
 
   by_columns_make : CanSort → (k : ℕ) (env : Env) (at : StandsAt texts env b on_row held) → IsBelow k b.vector → IsClear at.vector → Makes store (by_columns b q.groups) k env Grouped
   by_columns_make can k env at below clear =

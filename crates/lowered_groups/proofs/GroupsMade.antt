@@ -1,52 +1,50 @@
 -- The groups of rows that stand at a base, with the values of their aggregates: what the part that writes them makes.
-use Rattle.std.proofs.Common.{◌≡◌, ◌∙◌, ℕ, ◌+◌, ◌<◌, ◌≤◌, ◌^◌, Bool, true, false, List, [], ◌∷◌, ◌++◌, length, map, get_or, refl, sym, ap, subst, arith, Option, Some, None, Result, Ok, Err}
+use Rattle.std.proofs.Common.{◌≡◌, ◌∙◌, ℕ, ◌+◌, ◌<◌, ◌≤◌, Bool, true, false, List, [], ◌∷◌, ◌++◌, length, map, refl, sym, ap, subst, arith, Option, Some, None, Result, Ok, Err}
 use Rattle.std.specs.Prelude.{◌==◌, if◌then◌else◌}
-use Rattle.std.specs.Option.{ForSome, option_map}
+use Rattle.std.specs.Option.{option_map}
 use Rattle.std.specs.List.{All, Contains, enumerate_from, list_any}
 use Rattle.std.proofs.lemmas.List.{length-map}
 use Rattle.std.proofs.lemmas.List.Elements.{All-nil, All-head, All-tail, All-cons, All-append, All-map, All-contains}
 use Rattle.control_vectors.specs.Slots.{Slot, over}
 use Rattle.control_vectors.specs.declared.Over.{Over}
 use Rattle.programs.specs.Faults.{path_clash}
-use Rattle.programs.specs.Mentions.{Label, has_name}
+use Rattle.programs.specs.Mentions.{has_name}
 use Rattle.programs.specs.Outlines.{Outline, outlines, outline_of}
 use Rattle.programs.specs.Vectors.{Vector, Env, slots_of}
 use Rattle.programs.proofs.Projections.{apart_clear}
-use Rattle.sql_values.specs.Values.{Value}
 use Rattle.table_load.specs.Databases.{coded}
-use Rattle.typed_trees.specs.declared.typed.Aggregate.{Aggregate}
 use Rattle.typed_trees.specs.declared.typed.ColumnRef.{ColumnRef}
 use Rattle.typed_trees.specs.declared.typed.TypedExpr.{TypedExpr}
-use Rattle.typed_trees.specs.Names.{same_column, names_column, names_aggregate}
-use Rattle.typed_trees.specs.Types.{DataType, no_aggregate, aggregate_type}
+use Rattle.typed_trees.specs.Names.{same_column}
+use Rattle.typed_trees.specs.Types.{no_aggregate}
 use Rattle.typed_values.specs.Values.{On}
 use Rattle.value_laws.specs.Laws.{is_of, KindLaw}
-use Rattle.query_answers.specs.Answers.{FromRow, Group, column_value, groups_of, on_group, on_row}
+use Rattle.query_answers.specs.Answers.{FromRow, Group, groups_of, on_group, on_row}
 use Rattle.query_answers.specs.Clauses.{Clauses}
 use Rattle.query_answers.specs.Overs.{each}
 use Rattle.expr_steps.specs.Lowered.{Bytes}
 use Rattle.expr_values.specs.Laws.{is_known, KnownLaw}
-use Rattle.held_groups.specs.Groups.{AreSame, CanCode, column_slot, ColumnCanCode, RowsCanCode}
+use Rattle.held_groups.specs.Groups.{AreSame, column_slot, RowsCanCode}
 use Rattle.held_groups.specs.Heads.{group_places, fits}
 use Rattle.held_groups.specs.Overs.{group_on, some_over}
 use Rattle.held_groups.proofs.Heads.{head_laws}
 use Rattle.held_groups.proofs.Overs.{groups_on_law}
-use Rattle.held_rows.specs.Held.{Held, Holds, Told, at as at_row, present, column, one}
+use Rattle.held_rows.specs.Held.{Held, Told, present, column, one}
 use Rattle.program_writers.specs.Names.{IsBelow}
 use Rattle.program_writers.specs.Statements.{mark}
-use Rattle.program_writers.specs.Writers.{Writer, ◌>>=◌, through}
+use Rattle.program_writers.specs.Writers.{Writer, through}
 use Rattle.plan_lower.specs.Groups.{Folding, folding, aggregate_of, grouped}
 use Rattle.plan_lower.specs.Sites.{Base}
 use Rattle.writer_checks.specs.Checks.{HasShape}
-use Rattle.writer_runs.specs.Runs.{Makes, Delivers}
-use Rattle.lowered_stages.specs.Stages.{StandsAt, Stands, Covers, told_of, column_told, aggregate_told}
+use Rattle.writer_runs.specs.Runs.{Delivers}
+use Rattle.lowered_stages.specs.Stages.{StandsAt, Stands, told_of, column_told, aggregate_told}
 use Rattle.lowered_stages.specs.Parts.{CanGroup, CanGroupRows, CanValue, SamePlaces, AreAlike, fits_slot, itself}
 use Rattle.lowered_groups.specs.Laws.{ValueOfRows, GroupsRun}
 use Rattle.lowered_groups.proofs.Aggregates.{CanAggregate, made_if, aggregates_make}
 use Rattle.lowered_groups.proofs.Bases.{IsGroups, SlotsAt, all_left, all_right, all_weaker}
 use Rattle.lowered_groups.proofs.Grouped.{Regrouped, CanSort, folding_make}
-use Rattle.lowered_groups.proofs.Parts.{Kept, delivers_after, delivers_weaker}
-use Rattle.lowered_groups.proofs.SortedRows.{IsClear, names_of}
+use Rattle.lowered_groups.proofs.Parts.{delivers_after}
+use Rattle.lowered_groups.proofs.SortedRows.{IsClear}
 
 -- ---- what the columns of rows are
 
@@ -56,11 +54,13 @@ all_unmapped P f (x ∷ xs) h = All-cons (λ x. P (f x)) x xs (All-head P (f x) 
 
 columns_can : (texts : List Bytes) (columns : List ColumnRef) (rows : List FromRow) → All (λ c. AreAlike texts (map (λ r. (on_row r).column c) rows)) columns → RowsCanCode texts columns rows
 columns_can texts columns rows h c m =
-    let alike : AreAlike texts (map (λ r. (on_row r).column c) rows) = All-contains (λ c. AreAlike texts (map (λ r. (on_row r).column c) rows)) columns c h m in
-    (alike.kind, λ row k. record {
-      is = All-contains (λ r. is_of alike.kind ((on_row r).column c) ≡ true) rows row (all_unmapped (λ v. is_of alike.kind v ≡ true) (λ r. (on_row r).column c) rows alike.each_is) k;
-      known = All-contains (λ r. is_known texts ((on_row r).column c) ≡ true) rows row (all_unmapped (λ v. is_known texts v ≡ true) (λ r. (on_row r).column c) rows alike.known) k;
-    })
+    let alike : AreAlike texts (map (λ r. (on_row r).column c) rows) = All-contains (λ c. AreAlike texts (map (λ r. (on_row r).column c) rows)) columns c h m in (
+      alike.kind,
+      λ row k. record {
+        is = All-contains (λ r. is_of alike.kind ((on_row r).column c) ≡ true) rows row (all_unmapped (λ v. is_of alike.kind v ≡ true) (λ r. (on_row r).column c) rows alike.each_is) k;
+        known = All-contains (λ r. is_known texts ((on_row r).column c) ≡ true) rows row (all_unmapped (λ v. is_known texts v ≡ true) (λ r. (on_row r).column c) rows alike.known) k;
+      },
+    )
 
 same_fits : (s : Slot) → fits_slot s ≡ true → fits s ≡ true
 same_fits None h = refl
@@ -155,8 +155,8 @@ module _ (kinds : KindLaw) (knows : KnownLaw) (values : ValueOfRows) (store : En
     few = can.few;
     fit = columns_fit texts q.groups (present held) can_rows.columns_fit;
     groups = λ front behind same.
-      subst (λ (l : List ColumnRef). present (group_places texts l front behind (length held) (present held)) ≡ groups_of l (present held)) (sym is)
-      (head_laws.groups texts c cs front behind (length held) (present held) (subst (λ (l : List ColumnRef). RowsCanCode texts l (present held)) is (columns_can texts q.groups (present held) can_rows.columns_alike)) (subst (λ (l : List ColumnRef). AreSame l (front ++ behind)) is same));
+        subst (λ (l : List ColumnRef). present (group_places texts l front behind (length held) (present held)) ≡ groups_of l (present held)) (sym is)
+        (head_laws.groups texts c cs front behind (length held) (present held) (subst (λ (l : List ColumnRef). RowsCanCode texts l (present held)) is (columns_can texts q.groups (present held) can_rows.columns_alike)) (subst (λ (l : List ColumnRef). AreSame l (front ++ behind)) is same));
   }
 
   aggregates_can : (c : Base) → SamePlaces b c → All (CanAggregate texts c (present held)) q.aggregates

@@ -1,5 +1,5 @@
 -- Parts that make what they tell, or are Over, one behind another; and the vectors that statements make.
-use Rattle.std.proofs.Common.{◌≡◌, ◌∙◌, ℕ, ◌+◌, ◌≤◌, true, List, refl, sym, ap, Option, Some, None, Result, Ok, Err}
+use Rattle.std.proofs.Common.{◌≡◌, ◌∙◌, ℕ, ◌≤◌, true, List, refl, ap, Some, Result, Ok, Err}
 use Rattle.control_vectors.specs.Controls.{Control}
 use Rattle.control_vectors.specs.declared.Over.{Over}
 use Rattle.control_vectors.specs.declared.PairKind.{PairKind}
@@ -23,11 +23,11 @@ use Rattle.voodoo_ops.specs.Ranges.{ranged}
 use Rattle.voodoo_ops.specs.Slotwise.{paired}
 use Rattle.program_writers.specs.Names.{IsBelow, is_word}
 use Rattle.program_writers.specs.Statements.{out, with_attribute, at_places}
-use Rattle.program_writers.specs.Writers.{Writer, tell, ◌>>=◌, make}
+use Rattle.program_writers.specs.Writers.{Writer, ◌>>=◌, make}
 use Rattle.program_writers.proofs.Numbers.{below_more}
 use Rattle.query_answers.specs.Overs as overs
-use Rattle.writer_runs.specs.Runs.{Makes, Fails, Delivers, Sees}
-use Rattle.writer_runs.proofs.Composed.{makes_tell, makes_bind, fails_first, fails_behind, makes_one, fails_one}
+use Rattle.writer_runs.specs.Runs.{Makes, Delivers, Sees}
+use Rattle.writer_runs.proofs.Composed.{makes_bind, fails_first, fails_behind, makes_one, fails_one}
 
 -- ---- vectors by name
 

@@ -1,10 +1,6 @@
 -- The attributes by which rows run: the mark, and a group column more.
-use Rattle.std.proofs.Common.{◌≡◌, ◌∙◌, ℕ, ◌+◌, ◌<◌, ◌≤◌, ◌^◌, Bool, true, false, cond, not, ◌||◌, List, [], ◌∷◌, ◌++◌, ◌⊎◌, inl, inr, ⊎_elim, length, map, filter, refl, sym, ap, subst, arith, append_assoc, Option, Some, None, codes, decimal}
-use Rattle.std.specs.Prelude.{◌↔◌}
+use Rattle.std.proofs.Common.{◌≡◌, ◌∙◌, ℕ, ◌+◌, ◌<◌, ◌^◌, Bool, true, false, cond, not, List, [], ◌∷◌, ◌++◌, ⊎_elim, length, map, refl, sym, ap, subst, arith, codes, decimal}
 use Rattle.std.specs.List.{All, Contains}
-use Rattle.std.specs.Map.{lookup}
-use Rattle.std.specs.Option.{unwrap_or}
-use Rattle.std.specs.Str.{bytes_eq}
 use Rattle.std.proofs.lemmas.List.{map-append}
 use Rattle.std.proofs.lemmas.List.Elements.{All-nil, All-cons, All-head, All-tail, All-append, All-map, Contains-append_left, Contains-append_right, Contains-append_cases}
 use Rattle.control_vectors.specs.Runs as tuples
@@ -12,11 +8,9 @@ use Rattle.control_vectors.specs.Runs.{side_by_side}
 use Rattle.control_vectors.specs.Slots.{Slot}
 use Rattle.dict_codes.proofs.Members.{here, there, first_or_later, nothing_in}
 use Rattle.key_paths.specs.Substructures.{is_at_or_below}
-use Rattle.programs.specs.Faults.{all_apart}
 use Rattle.programs.specs.Merges.{entered, merged}
 use Rattle.programs.specs.Mentions.{Label}
-use Rattle.programs.specs.Moves as paths
-use Rattle.programs.specs.Outlines.{Outline, outline_of}
+use Rattle.programs.specs.Outlines.{Outline}
 use Rattle.programs.specs.Vectors.{Attribute, Vector, slots_of}
 use Rattle.voodoo_ops.specs.Attributes.{comes_before, below, beside, projected, resized, upserted}
 use Rattle.voodoo_ops.specs.Runs.{run_marks}
@@ -212,8 +206,8 @@ module _ (texts : List Bytes) (kept : Held FromRow) where
       let e : Label × ColumnRef = (run_path j, c) in
       let s = splits e r.front r.behind in
       let off : beside (run_path j) v.attributes ≡ run_attributes r.front r.behind =
-          ap (beside (run_path j)) r.are
-          ∙ all_beside (run_path j) (run_attributes r.front r.behind) (all_attributes (λ t. is_at_or_below t.0 (run_path j) ≡ false) j r.front r.behind r.numbers (mark_beside j) (path_beside j small)) in
+      ap (beside (run_path j)) r.are
+      ∙ all_beside (run_path j) (run_attributes r.front r.behind) (all_attributes (λ t. is_at_or_below t.0 (run_path j) ≡ false) j r.front r.behind r.numbers (mark_beside j) (path_beside j small)) in
       let values : resized v.len (slots_of u.attributes q) ≡ column (column_slot texts c) kept = ap (resized v.len) slots ∙ resized_same (column (column_slot texts c) kept) v.len (long ∙ sym r.len) in
       record {
         front = s.first;
@@ -221,9 +215,9 @@ module _ (texts : List Bytes) (kept : Held FromRow) where
         len = r.len;
         are = ap (λ (l : List Slot). merged comes_before ((run_path j, l) ∷ []) (beside (run_path j) v.attributes)) values ∙ ap (enter e) off ∙ s.is;
         numbers = all_with (IsRunBelow (j + 1)) e (r.front ++ r.behind) (s.first ++ s.second) s.more (j, omega arith, refl)
-          (all_weaker (IsRunBelow j) (IsRunBelow (j + 1)) (r.front ++ r.behind) (λ t i. (i.0, omega (arith, i.1), i.2)) r.numbers);
+            (all_weaker (IsRunBelow j) (IsRunBelow (j + 1)) (r.front ++ r.behind) (λ t i. (i.0, omega (arith, i.1), i.2)) r.numbers);
         same = subst (AreSame (done ++ c ∷ [])) (map_parts s.first s.second)
-          (same_with done e (r.front ++ r.behind) (s.first ++ s.second) s.more (subst (AreSame done) (sym (map_parts r.front r.behind)) r.same));
+            (same_with done e (r.front ++ r.behind) (s.first ++ s.second) s.more (subst (AreSame done) (sym (map_parts r.front r.behind)) r.same));
       }
 
   -- ---- the marks of the runs
@@ -239,7 +233,7 @@ module _ (texts : List Bytes) (kept : Held FromRow) where
   pub marks_are : (j : ℕ) (done : List ColumnRef) (v : Vector) (r : AreRuns j done v) → run_marks v run ≡ tuples.run_marks (side_by_side (length kept) (map (λ f. column f kept) (run_slots texts (map (λ e. e.1) r.front) (map (λ e. e.1) r.behind))))
   marks_are j done v r =
       let all : below run v.attributes ≡ run_attributes r.front r.behind =
-          ap (below run) r.are ∙ all_below run (run_attributes r.front r.behind) (all_attributes (λ t. is_at_or_below t.0 run ≡ true) j r.front r.behind r.numbers refl (path_below j)) in
+      ap (below run) r.are ∙ all_below run (run_attributes r.front r.behind) (all_attributes (λ t. is_at_or_below t.0 run ≡ true) j r.front r.behind r.numbers refl (path_below j)) in
       ap (λ (n : ℕ). tuples.run_marks (side_by_side n (map (λ t. t.1) (below run v.attributes)))) r.len
       ∙ ap (λ (l : List Attribute). tuples.run_marks (side_by_side (length kept) (map (λ t. t.1) l))) all
       ∙ ap (λ (l : List (List Slot)). tuples.run_marks (side_by_side (length kept) l)) (all_slots_are r.front r.behind)
@@ -257,7 +251,7 @@ module _ (texts : List Bytes) (kept : Held FromRow) where
   pub first_runs : (v : Vector) → v.len ≡ length kept → slots_of v.attributes mark ≡ column one kept → IsClear v → AreRuns 0 [] (projected v mark run_mark)
   first_runs v len slots clear =
       let names : names_of (projected v mark run_mark).attributes ≡ run_mark ∷ [] =
-          ap (λ (o : Outline). o.paths) (outline_projected v mark run_mark) ∙ projected_alone mark run_mark (names_of v.attributes) clear.apart clear.has_mark refl refl (omega arith) in
+      ap (λ (o : Outline). o.paths) (outline_projected v mark run_mark) ∙ projected_alone mark run_mark (names_of v.attributes) clear.apart clear.has_mark refl refl (omega arith) in
       let holds : Holds (projected v mark run_mark) kept ((run_mark, one) ∷ []) = project_holds v mark run_mark kept one (omega arith) (omega arith) len slots in
       record {
         front = [];

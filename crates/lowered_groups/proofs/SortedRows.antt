@@ -1,5 +1,5 @@
 -- The rows at a base, sorted by group columns.
-use Rattle.std.proofs.Common.{◌≡◌, ◌∙◌, ℕ, zero, suc, ◌+◌, ◌-◌, ◌≤◌, Bool, true, false, cond, List, [], ◌∷◌, ◌++◌, length, map, replicate, refl, sym, ap, subst, arith, Option, Some, None, Ok, codes}
+use Rattle.std.proofs.Common.{◌≡◌, ◌∙◌, ℕ, zero, suc, ◌-◌, ◌≤◌, Bool, true, false, cond, List, [], ◌∷◌, ◌++◌, length, map, replicate, refl, sym, ap, subst, arith, Option, Some, None, codes}
 use Rattle.std.specs.List.{All, list_any}
 use Rattle.std.proofs.lemmas.List.{length-append, length-map, length-replicate}
 use Rattle.std.proofs.lemmas.List.Elements.{All-head, All-tail}
@@ -26,7 +26,7 @@ use Rattle.held_rows.proofs.Sorted.{order_law}
 use Rattle.held_rows.proofs.Upserted.{first_slots, gather_holds}
 use Rattle.program_writers.specs.Names.{IsBelow}
 use Rattle.program_writers.specs.Statements.{out, mark, at_places}
-use Rattle.program_writers.specs.Writers.{Writer, tell, ◌>>=◌, make}
+use Rattle.program_writers.specs.Writers.{tell, ◌>>=◌, make}
 use Rattle.plan_lower.specs.Groups.{ascending, sorted}
 use Rattle.plan_lower.specs.Sites.{Base, moved_to, path_in}
 use Rattle.writer_runs.specs.Runs.{Makes}
@@ -35,8 +35,7 @@ use Rattle.lowered_stages.specs.Stages.{StandsAt, told_of}
 use Rattle.lowered_stages.specs.Parts.{SamePlaces}
 use Rattle.lowered_groups.proofs.Columns.{mark_slots, column_slots}
 use Rattle.lowered_groups.proofs.Folds.{stands_later}
-use Rattle.lowered_groups.proofs.Parts.{Has, Kept, NowHas, has_later, makes_order, makes_gather}
-use Rattle.lowered_groups.proofs.Bases.{all_weaker}
+use Rattle.lowered_groups.proofs.Parts.{Has, NowHas, makes_order, makes_gather}
 use Rattle.program_writers.proofs.Numbers.{below_more}
 
 -- ---- the paths of a vector do not clash, and the mark is among them
@@ -80,8 +79,8 @@ pub packed_long : {A : Type 0} (n : ℕ) (rows : List A) → length rows ≤ n �
 packed_long {A} n rows h =
     length-append (map (λ a. Some a) rows) (replicate (n - length rows) None)
     ∙ (let front : length (map {B = Option A} (λ a. Some a) rows) ≡ length rows = length-map rows (λ a. Some a) in
-       let back : length (replicate {A = Option A} (n - length rows) None) ≡ n - length rows = length-replicate {A = Option A} (n - length rows) None in
-       omega (arith, front, back, h))
+    let back : length (replicate {A = Option A} (n - length rows) None) ≡ n - length rows = length-replicate {A = Option A} (n - length rows) None in
+    omega (arith, front, back, h))
 
 pub present_packed : {A : Type 0} (n : ℕ) (rows : List A) → present (packed n rows) ≡ rows
 present_packed n rows = by rows (n - length rows)
@@ -136,17 +135,17 @@ module _ (store : Env) (texts : List Bytes) (b : Base) (held : Held FromRow) (co
       (NowHas (order at.vector mark out (map (λ c. ascending (path_in b c)) columns))) SortedAt
       (makes_order store (codes "order") k env refl b.vector mark (map (λ c. ascending (path_in b c)) columns) at.vector (record { sees = at.sees; below = below }))
       (λ name next between more has kept.
-        let here = stands_later texts on_row k env between b held below kept at in
-        let ordering = vectors.column out at.vector.len places in
-        let by : Has next between name ordering = subst (λ (v : Vector). Has next between name v) (order_is env at can) has in
-        let v = gather at.vector ordering out in
-        let holds : Holds v sorted_held (told_of texts on_row b) = gather_holds at.vector ordering out held sorted_held (told_of texts on_row b) at.holds (at.holds.len ∙ sym sorted_length) sorted_length moved in
-        makes_bind Label Base store (make (codes "sorted") (at_places b.vector name)) (λ rows. tell (moved_to rows b)) next between
-        (NowHas v) SortedAt
-        (makes_gather store (codes "sorted") next between refl b.vector name at.vector ordering (record { sees = here.sees; below = below_more k next b.vector more below }) by)
-        (λ rows later after on done left.
-          makes_tell Base store (moved_to rows b) later after SortedAt
-          (record { stands = record { vector = v; sees = done.sees; holds = holds }; below = done.below; clear = clear_gathered at.vector ordering out clear; same = record { columns = refl; aggregates = refl } })))
+      let here = stands_later texts on_row k env between b held below kept at in
+      let ordering = vectors.column out at.vector.len places in
+      let by : Has next between name ordering = subst (λ (v : Vector). Has next between name v) (order_is env at can) has in
+      let v = gather at.vector ordering out in
+      let holds : Holds v sorted_held (told_of texts on_row b) = gather_holds at.vector ordering out held sorted_held (told_of texts on_row b) at.holds (at.holds.len ∙ sym sorted_length) sorted_length moved in
+      makes_bind Label Base store (make (codes "sorted") (at_places b.vector name)) (λ rows. tell (moved_to rows b)) next between
+      (NowHas v) SortedAt
+      (makes_gather store (codes "sorted") next between refl b.vector name at.vector ordering (record { sees = here.sees; below = below_more k next b.vector more below }) by)
+      (λ rows later after on done left.
+      makes_tell Base store (moved_to rows b) later after SortedAt
+      (record { stands = record { vector = v; sees = done.sees; holds = holds }; below = done.below; clear = clear_gathered at.vector ordering out clear; same = record { columns = refl; aggregates = refl } })))
     where
       moved : (f : FromRow → Slot) → gathered (column f held) (slots_of (vectors.column out at.vector.len places).attributes out) ≡ column f sorted_held
       moved f = ap (gathered (column f held)) (first_slots out places []) ∙ order_law held (map (column_key texts) columns) f

@@ -1,11 +1,11 @@
 -- What the aggregates of groups are, by the values of their arguments on rows.
-use Rattle.std.proofs.Common.{◌≡◌, ◌∙◌, ℕ, ◌<◌, ◌≤◌, ◌^◌, Bool, true, false, ◌||◌, List, [], ◌∷◌, length, map, get_or, refl, sym, ap, subst, arith, Option, Some, None, Result, Ok, Err}
+use Rattle.std.proofs.Common.{◌≡◌, ◌∙◌, ℕ, ◌<◌, ◌≤◌, ◌^◌, true, ◌||◌, List, [], ◌∷◌, length, get_or, refl, sym, ap, subst, arith, Option, Some, None, Ok, Err}
 use Rattle.std.specs.Prelude.{is_some, is_err, IsOkAnd, IfOk}
 use Rattle.std.specs.Option.{option_and_then}
 use Rattle.std.specs.List.{All, AllByRecursion, Contains, list_any}
 use Rattle.std.proofs.lemmas.Bool.{false≢true}
 use Rattle.std.proofs.lemmas.List.Elements.{All-contains, All-contains_itself}
-use Rattle.control_vectors.specs.Slots.{Slot, Cell, has_over, all_slots}
+use Rattle.control_vectors.specs.Slots.{Cell, has_over, all_slots}
 use Rattle.control_vectors.specs.declared.Over.{Over}
 use Rattle.sql_values.specs.Values.{Value}
 use Rattle.typed_trees.specs.declared.typed.AggregateKind.{AggregateKind}
@@ -14,10 +14,9 @@ use Rattle.typed_trees.specs.declared.typed.Aggregate.{Aggregate}
 use Rattle.typed_trees.specs.declared.typed.ColumnRef.{ColumnRef}
 use Rattle.typed_trees.specs.declared.typed.TypedExpr.{TypedExpr}
 use Rattle.typed_trees.specs.Types.{DataType, no_aggregate, folded_type, argument_type}
-use Rattle.typed_values.specs.Aggregates.{argument_over}
 use Rattle.typed_values.specs.Values.{Valued, value}
 use Rattle.value_laws.specs.Laws.{is_of, KindLaw}
-use Rattle.query_answers.specs.Answers.{FromRow, Group, column_value, groups_of, on_row}
+use Rattle.query_answers.specs.Answers.{FromRow, Group, groups_of, on_row}
 use Rattle.query_answers.specs.Overs.{each}
 use Rattle.expr_steps.specs.Lowered.{Bytes}
 use Rattle.expr_values.specs.Laws.{CanStand, IsLowerable, is_known, KnownLaw, value_slot, value_cell}

@@ -40,7 +40,7 @@ GroupsRun =
     (texts : List Bytes) (q : Clauses) (len : ℕ) (rows : List FromRow) (b : Base) (k : ℕ) (store env : Env)
     → CanGroup b q.groups q.aggregates → CanGroupRows texts q.groups q.aggregates rows → length q.aggregates ≤ 512 → IsBelow k b.vector → Stands texts b on_row len rows env → HasShape (outlines env) b.vector len (mark ∷ [])
     → Delivers store (grouped texts b q.groups q.aggregates) k env (each (on_group q) (groups_of q.groups rows))
-        (λ groups c next after. (count : ℕ) × (Stands texts c itself count groups after × (IsBelow next c.vector × (All (λ g. list_any (λ p. same_column p.column g) c.columns ≡ true) q.groups × ((n : ℕ) → n < length q.aggregates → list_any (λ p. p.aggregate == n) c.aggregates ≡ true)))))
+    (λ groups c next after. (count : ℕ) × (Stands texts c itself count groups after × (IsBelow next c.vector × (All (λ g. list_any (λ p. same_column p.column g) c.columns ≡ true) q.groups × ((n : ℕ) → n < length q.aggregates → list_any (λ p. p.aggregate == n) c.aggregates ≡ true)))))
 
 -- what values are, groups are made of
 abbrev pub RunLaw : Type 0
