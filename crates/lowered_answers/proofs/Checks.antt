@@ -1,4 +1,5 @@
 -- A plan's program passes its check, and makes no vector of more than 2^22 places: its parts one behind another, and the result at its end.
+use Rattle.std.proofs.lemmas.Bool.{le-ltb}
 use Rattle.std.proofs.Common.{◌≡◌, ℕ, ◌+◌, ◌≤◌, ◌^◌, Bool, true, false, ◌||◌, List, [], ◌∷◌, ◌++◌, length, nat_lt, refl, sym, ap, ◌∙◌, subst, option_to_list, option_map, if◌then◌else◌, Option, Some, None, Result, Ok, Err, ◌==◌, arith}
 use Rattle.std.specs.Prelude.{codes}
 use Rattle.std.specs.List.{All, list_any}
@@ -6,7 +7,8 @@ use Rattle.lowered_answers.proofs.Lists.{all_none, all_more, all_head, all_tail}
 use Rattle.control_vectors.specs.Controls.{Control}
 use Rattle.programs.specs.declared.op.Op.TheVariants as op
 use Rattle.programs.specs.declared.op.Statement.{Statement}
-use Rattle.programs.specs.Check.{Known, Checked, then_check, check_from, check, at_start, names_result, shape_of, limit_from, limit_of, with_result as known_with}
+use Rattle.programs.specs.Check.{Known, Checked, then_check, check_from, check, at_start, names_result, shape_of, limit_from, limit_of, fault, with_result as known_with}
+use Rattle.programs.specs.declared.op.ProgramKind.TheVariants.{TooManyStatements}
 use Rattle.programs.specs.Mentions.{Label, is_persist}
 use Rattle.programs.specs.Outlines.{Outline, Shapes, no_outline, outlines}
 use Rattle.programs.specs.Vectors.{tables}
@@ -20,6 +22,7 @@ use Rattle.typed_trees.specs.Types.{no_aggregate, types_of}
 use Rattle.expr_lower.specs.declared.places.ColumnPlace.{ColumnPlace}
 use Rattle.expr_lower.specs.declared.places.AggregatePlace.{AggregatePlace}
 use Rattle.plan_laws.specs.PlanAnswers.{clauses_of_plan}
+use Rattle.lowered_group_checks.specs.Laws.{GroupsPass}
 use Rattle.lowered_premises.specs.Laws.{HaveValues}
 use Rattle.rel_plan.specs.declared.plans.RelPlan.{RelPlan}
 use Rattle.program_writers.specs.Statements.{mark}
@@ -33,16 +36,17 @@ use Rattle.plan_lower.specs.Rows.{rows_of, kept}
 use Rattle.plan_lower.specs.Groups.{grouped}
 use Rattle.plan_lower.specs.Lowered.{defined_rows, table_rows, from_rows, stands_on}
 use Rattle.lowered_stages.specs.Stages.{IsShaped}
-use Rattle.lowered_stages.specs.Parts.{CanValue, RowsPasses, KeptPasses, GroupedPasses, GroupedPlaces, HasColumnsOf, IsKeyOf, SamePlaces}
+use Rattle.lowered_stages.specs.Parts.{CanValue, RowsPasses, KeptPasses, GroupedPlaces, HasColumnsOf, IsKeyOf, SamePlaces}
 use Rattle.lowered_items.specs.Items.{IsAlone, ItemsAlone}
 use Rattle.lowered_premises.specs.Sources.{OverTable, HasGroupPlaces}
 use Rattle.lowered_answers.proofs.Bodies.{items_on, behind_where, behind_rows, body}
+use Rattle.lowered_answers.proofs.Outlined.{no_limit}
 use Rattle.lowered_answers.proofs.Runs.{RunLaws, Given, Premises, texts, few_columns, few_rows, has_same, table_made}
 
 pub record PassLaws : Type 0 where
   pub rows_pass : RowsPasses
   pub kept_pass : KeptPasses
-  pub grouped_pass : GroupedPasses
+  pub grouped_pass : GroupsPass
   pub items_pass : ItemsAlone
 
 abbrev pub PlacesLaws : Type 0
@@ -70,7 +74,7 @@ table_few g = omega (arith, few_rows g)
 nothing_known : IsFresh 0 at_start.vectors
 nothing_known name some = absurd (some refl)
 
-abbrev RowsShaped : Given → Base → Shapes → Type 0
+abbrev pub RowsShaped : Given → Base → Shapes → Type 0
 RowsShaped g b shapes = IsShaped (length g.table.rows) b shapes × HasColumnsOf 0 g.source.columns b
 
 table_passes : RunLaws → Premises → PassLaws → (g : Given) → Passes (stored g) (table_rows g.defs g.source.table g.source.columns) 0 at_start (RowsShaped g)
@@ -82,15 +86,15 @@ table_passes runs h laws g =
     (laws.rows_pass g.defs g.ts g.source.table 0 g.def g.table g.source.columns g.can.database g.over.defined g.over.stored (h.columns g.defs g.ts g.plan g.source g.def g.table g.can g.over).within (few_columns g) 0 at_start nothing_known (record {}))))
 
 -- rows that are kept have the same places
-kept_passes : Premises → PassLaws → (g : Given) (b : Base) (es : List TypedExpr) (k : ℕ) (known : Known) → IsFresh k known.vectors → All (CanValue no_aggregate b) es → RowsShaped g b known.vectors → Passes (stored g) (kept g.select (texts g) b es) k known (RowsShaped g)
+pub kept_passes : Premises → PassLaws → (g : Given) (b : Base) (es : List TypedExpr) (k : ℕ) (known : Known) → IsFresh k known.vectors → All (CanValue no_aggregate b) es → RowsShaped g b known.vectors → Passes (stored g) (kept g.select (texts g) b es) k known (RowsShaped g)
 kept_passes h laws g b es k known fresh values (shaped, places) =
     weaker (stored g) (kept g.select (texts g) b es) k known (λ c shapes. IsShaped (length g.table.rows) c shapes × SamePlaces b c) (RowsShaped g) (λ c shapes still t. (t.0, has_same 0 g.source.columns b c t.1 places))
     (laws.kept_pass (stored g) g.select (texts g) no_aggregate (length g.table.rows) b es (table_few g) values k known fresh shaped)
 
-values_over : Premises → (g : Given) (b : Base) → HasColumnsOf 0 g.source.columns b → HaveValues g.plan g.source b
+pub values_over : Premises → (g : Given) (b : Base) → HasColumnsOf 0 g.source.columns b → HaveValues g.plan g.source b
 values_over h g b places = h.places g.defs g.ts g.plan g.source g.def g.table b g.can g.over places
 
-from_passes : RunLaws → Premises → PassLaws → (g : Given) → Passes (stored g) (from_rows g.select (texts g) g.defs g.plan.sources) 0 at_start (RowsShaped g)
+pub from_passes : RunLaws → Premises → PassLaws → (g : Given) → Passes (stored g) (from_rows g.select (texts g) g.defs g.plan.sources) 0 at_start (RowsShaped g)
 from_passes runs h laws g =
     let m = table_rows g.defs g.source.table g.source.columns in
     let first = table_passes runs h laws g in
@@ -110,7 +114,7 @@ group_places laws g b k = let p = laws (texts g) b g.plan.groups g.plan.aggregat
 groups_pass : Premises → PassLaws → PlacesLaws → (g : Given) → g.plan.grouped ≡ true → (b : Base) (k : ℕ) (known : Known) → IsFresh k known.vectors → RowsShaped g b known.vectors → Passes (stored g) (stands_on g.select (texts g) g.plan true b) k known (StandsShaped g)
 groups_pass h laws static g is b k known fresh (shaped, places) =
     let m = grouped (texts g) b g.plan.groups g.plan.aggregates in
-    let first = laws.grouped_pass (stored g) (texts g) (length g.table.rows) b g.plan.groups g.plan.aggregates (table_few g) (values_over h g b places).grouping k known fresh shaped in
+    let first = laws.grouped_pass (stored g) (texts g) (length g.table.rows) b g.plan.groups g.plan.aggregates (table_few g) (values_over h g b places).grouping g.can.small.aggregates k known fresh shaped in
     let c = (m k).told in
     let over = h.group_places g.defs g.ts g.plan g.source g.def g.table c g.can g.over is (group_places static g b k) in
     behind_passes Base Base (stored g) m (λ d. kept g.select (texts g) d (option_to_list g.plan.having)) k known (λ d shapes. (count : ℕ) × ((count ≤ 2 ^ 22) × IsShaped count d shapes)) (StandsShaped g) first
@@ -159,13 +163,6 @@ body_passes runs h laws static g =
 
 -- ---- with its result
 
-pub no_limit : (k : ℕ) (shape : List Outline) → AreSmall shape → limit_from k shape ≡ None
-no_limit k [] h = refl
-no_limit k (o ∷ shape) h = ap (λ (b : Bool). if b then Some (k, o.len) else limit_from (k + 1) shape) (not_past o.len (all_head (λ o. o.len ≤ 2 ^ 22) o shape h)) ∙ no_limit (k + 1) shape (all_tail (λ o. o.len ≤ 2 ^ 22) o shape h)
-  where
-    not_past : (n : ℕ) → n ≤ 2 ^ 22 → nat_lt (2 ^ 22) n ≡ false
-    not_past n small = omega (arith, small)
-
 one_more_small : (shape : List Outline) → AreSmall shape → AreSmall (shape ++ no_outline ∷ [])
 one_more_small [] h = all_more (λ o. o.len ≤ 2 ^ 22) no_outline [] (omega arith) h
 one_more_small (o ∷ shape) h = all_more (λ o. o.len ≤ 2 ^ 22) o (shape ++ no_outline ∷ []) (all_head (λ o. o.len ≤ 2 ^ 22) o shape h) (one_more_small shape (all_tail (λ o. o.len ≤ 2 ^ 22) o shape h))
@@ -178,6 +175,10 @@ names_one (s ∷ a) name p = ap (λ (b : Bool). is_persist s.op || b) (names_one
     or_true true = refl
     or_true false = refl
 
+-- a program of no more statements than a program may have
+short_check : (tables : Shapes) (program : List Statement) → length program ≤ 65536 → check tables program ≡ shape_of (names_result program) (check_from tables program at_start)
+short_check tables program few = ap (λ (b : Bool). if b then Err (fault 65537 TooManyStatements) else shape_of (names_result program) (check_from tables program at_start)) (le-ltb 65536 (length program) few)
+
 pub passes_check : RunLaws → Premises → PassLaws → PlacesLaws → (g : Given) → length (with_result (body g.select (texts g) g.defs g.plan 0).statements (codes "answer") (body g.select (texts g) g.defs g.plan 0).told) ≤ 65536
     → (shape : List Outline) × ((check (stored g) (with_result (body g.select (texts g) g.defs g.plan 0).statements (codes "answer") (body g.select (texts g) g.defs g.plan 0).told) ≡ Ok shape) × (limit_of shape ≡ None))
 passes_check runs h laws static g few =
@@ -188,10 +189,4 @@ passes_check runs h laws static g few =
     let ran : check_from (stored g) all at_start ≡ Ok last =
         check_from-append (stored g) w.statements (statement (codes "answer") (op.Persist w.told) ∷ []) at_start ∙ ap (λ (r : Checked). then_check r (check_from (stored g) (statement (codes "answer") (op.Persist w.told) ∷ []))) p.passes
         ∙ shown (stored g) p.after (codes "answer") w.told p.holds.0 (mark ∷ []) p.holds.1.shape (ap (λ (f : Label → Bool). f (codes "answer")) p.results) in
-    (last.shape, (within (nat_lt 65536 (length all)) (not_more (length all) few) ∙ ap (shape_of (names_result all)) ran ∙ ap (λ (b : Bool). shape_of b (Ok last)) (names_one w.statements (codes "answer") w.told), no_limit 1 last.shape (one_more_small p.after.shape (p.small (all_none (λ o. o.len ≤ 2 ^ 22))))))
-  where
-    not_more : (n : ℕ) → n ≤ 65536 → nat_lt 65536 n ≡ false
-    not_more n small = omega (arith, small)
-
-    within : (b : Bool) → b ≡ false → (if b then _ else shape_of (names_result (with_result (body g.select (texts g) g.defs g.plan 0).statements (codes "answer") (body g.select (texts g) g.defs g.plan 0).told)) (check_from (stored g) (with_result (body g.select (texts g) g.defs g.plan 0).statements (codes "answer") (body g.select (texts g) g.defs g.plan 0).told) at_start)) ≡ shape_of (names_result (with_result (body g.select (texts g) g.defs g.plan 0).statements (codes "answer") (body g.select (texts g) g.defs g.plan 0).told)) (check_from (stored g) (with_result (body g.select (texts g) g.defs g.plan 0).statements (codes "answer") (body g.select (texts g) g.defs g.plan 0).told) at_start)
-    within b e = ap (λ (c : Bool). if c then _ else shape_of (names_result (with_result (body g.select (texts g) g.defs g.plan 0).statements (codes "answer") (body g.select (texts g) g.defs g.plan 0).told)) (check_from (stored g) (with_result (body g.select (texts g) g.defs g.plan 0).statements (codes "answer") (body g.select (texts g) g.defs g.plan 0).told) at_start)) e
+    (last.shape, (short_check (stored g) all few ∙ ap (shape_of (names_result all)) ran ∙ ap (λ (b : Bool). shape_of b (Ok last)) (names_one w.statements (codes "answer") w.told), no_limit 1 last.shape (one_more_small p.after.shape (p.small (all_none (λ o. o.len ≤ 2 ^ 22))))))

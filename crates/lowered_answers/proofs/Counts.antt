@@ -145,9 +145,10 @@ keyed_most : (rows : Base) (columns : List ColumnRef) (nought runs vector : Labe
 keyed_most rows columns nought runs vector k =
     let zero = numbered (codes "nought") k in
     let loop = through (groups.key_of rows zero) (marked_alone vector) (enumerate_from 0 columns) in
+    let folding : Base → Writer Folding = λ g. tell (record { rows = rows; nought = nought; runs = runs; first = None; groups = g; zero = zero }) in
     omega (
       arith,
-      count_then loop (λ g. tell (record { rows = rows; nought = nought; runs = runs; first = None; groups = g; zero = zero })) (k + 1),
+      count_then loop folding (k + 1),
       through_most (groups.key_of rows zero) (λ x. 2) (λ r x n. omega arith) (enumerate_from 0 columns) (marked_alone vector) (k + 1),
       twos_sum (enumerate_from 0 columns),
       length-enumerate_from 0 columns,

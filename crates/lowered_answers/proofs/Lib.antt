@@ -2,9 +2,13 @@ pub mod Lists
 pub mod Delivering
 pub mod Alone
 pub mod Bodies
+pub mod Outlined
+pub mod Places
 pub mod Runs
 pub mod Uses
 pub mod Checks
+pub mod Made
 pub mod Counts
 pub mod Short
 pub mod Whole
+pub mod Assembled

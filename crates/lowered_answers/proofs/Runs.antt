@@ -37,7 +37,8 @@ use Rattle.plan_lower.specs.Rows.{rows_of, kept}
 use Rattle.plan_lower.specs.Groups.{grouped}
 use Rattle.plan_lower.specs.Lowered.{defined_rows, table_rows, source_rows, from_rows, stands_on}
 use Rattle.lowered_stages.specs.Stages.{Stands}
-use Rattle.lowered_stages.specs.Parts.{CanValue, CanValueAll, on_table, itself, HasColumnsOf, IsKeyOf, key_alike, SamePlaces, RowsRuns, KeptRuns, GroupedRuns, answer_rows, ordered_items}
+use Rattle.lowered_stages.specs.Parts.{CanValue, CanValueAll, on_table, itself, HasColumnsOf, IsKeyOf, key_alike, SamePlaces, RowsRuns, KeptRuns, answer_rows, ordered_items}
+use Rattle.lowered_groups.specs.Laws.{GroupsRun}
 use Rattle.lowered_items.specs.Items.{ShowsItems, ItemsMade}
 use Rattle.lowered_stages.specs.Plans.{CanLower}
 use Rattle.lowered_premises.specs.Sources.{OverTable, texts_of, alone, met_rows, IsRowOf, IsGroupOf, HasGroupPlaces}
@@ -51,7 +52,7 @@ use Rattle.lowered_answers.proofs.Delivering.{Behind, makes_then, delivers_then,
 pub record RunLaws : Type 1 where
   pub rows_run : RowsRuns
   pub kept_run : KeptRuns
-  pub grouped_run : GroupedRuns
+  pub grouped_run : GroupsRun
   pub items_run : ItemsMade
 
 pub record Premises : Type 0 where
@@ -89,7 +90,7 @@ HoldsAt texts items rows name next after = (v : Vector) × (Sees after name v ×
 -- ---- the rows of FROM
 
 -- from-rows stand at a base, which has a place for each of the source's columns
-abbrev RowsStand : Given → List FromRow → Base → ℕ → Env → Type 0
+abbrev pub RowsStand : Given → List FromRow → Base → ℕ → Env → Type 0
 RowsStand g rows b next after = Stands (texts g) b on_row (length g.table.rows) rows after × (IsBelow next b.vector × HasColumnsOf 0 g.source.columns b)
 
 abbrev TableStand : Given → Base → ℕ → Env → Type 0
@@ -107,9 +108,9 @@ table_made laws h g =
 source_conditions : (g : Given) → All (IsCondition no_aggregate) g.source.filter
 source_conditions g = all_head IsSource g.source [] (subst (All IsSource) g.over.only g.can.well_formed.typed.sources)
 
-having_conditions : {at : ℕ → Option DataType} (having : Option TypedExpr) → ForSome having (IsCondition at) → All (IsCondition at) (option_to_list having)
+pub having_conditions : {at : ℕ → Option DataType} (having : Option TypedExpr) → ForSome having (IsCondition at) → All (IsCondition at) (option_to_list having)
 having_conditions {at} None h = all_none (IsCondition at)
-having_conditions {at} (Some e) h = all_more (IsCondition at) e [] h (all_none (IsCondition at))
+having_conditions {at} (Some e) h = all_more (IsCondition at) e [] (h e refl) (all_none (IsCondition at))
 
 -- a part that keeps places
 pub has_same : (source : ℕ) (columns : List ℕ) (b c : Base) → SamePlaces b c → HasColumnsOf source columns b → HasColumnsOf source columns c
@@ -132,13 +133,13 @@ source_kept laws h g b next between (stands, (below, (places, (first, none)))) =
         subst (λ (r : Result (List Row) Over). Delivers (store g) (kept g.select (texts g) b g.source.filter) next between r (TableKept g b)) (h.shapes.kept_are g.defs g.ts g.plan g.source g.def g.table g.can g.over) made in
     delivers_same (store g) (kept g.select (texts g) b g.source.filter) next between (Ok (met_rows g.source g.table)) (TableKept g b) (λ rows. RowsStand g (map alone rows)) so kept_so
   where
-    so : (rows : List Row) (c : Base) (n : ℕ) (after : Env) → Ok (met_rows g.source g.table) ≡ Ok rows → (TableKept g b) rows c n after → RowsStand g (map alone rows) c n after
+    so : (rows : List Row) (c : Base) (n : ℕ) (after : Env) → ◌≡◌ {A = Result (List Row) Over} (Ok (met_rows g.source g.table)) (Ok rows) → (TableKept g b) rows c n after → RowsStand g (map alone rows) c n after
     so rows c n after e (stand, (name, same)) = (
       stands_alone (texts g) c (length g.table.rows) rows after (subst (All (λ p. p.column.source ≡ 0)) (sym same.columns) first) (same.aggregates ∙ none) stand,
       (name, has_same 0 g.source.columns b c same places),
     )
 
-from_made : RunLaws → Premises → (g : Given) → Makes (store g) (from_rows g.select (texts g) g.defs g.plan.sources) 0 nothing (RowsStand g (map alone (met_rows g.source g.table)))
+pub from_made : RunLaws → Premises → (g : Given) → Makes (store g) (from_rows g.select (texts g) g.defs g.plan.sources) 0 nothing (RowsStand g (map alone (met_rows g.source g.table)))
 from_made laws h g =
     subst (λ (l : List PlanSource). Makes (store g) (from_rows g.select (texts g) g.defs l) 0 nothing (RowsStand g (map alone (met_rows g.source g.table)))) (sym g.over.only)
     (makes_then (store g) (table_rows g.defs g.source.table g.source.columns) (λ b. kept g.select (texts g) b g.source.filter) 0 nothing (TableStand g) (Ok (met_rows g.source g.table)) (λ rows. RowsStand g (map alone rows)) (table_made laws h g)
@@ -146,12 +147,18 @@ from_made laws h g =
 
 -- ---- WHERE
 
-all_rows : Premises → (g : Given) → All (IsRowOf g.table) (map alone (met_rows g.source g.table))
+pub all_rows : Premises → (g : Given) → All (IsRowOf g.table) (map alone (met_rows g.source g.table))
 all_rows h g = h.members.rows g.table g.source
 
 -- what is left of a list is no more than the list
 filter_few : {A : Type 0} (p : A → Bool) (xs : List A) → length (filter p xs) ≤ length xs
 filter_few p xs = omega (arith, length-filter_both p (λ x. not (p x)) (λ x. refl) xs)
+
+some_same : {A : Type 0} (a b : A) → Some a ≡ Some b → a ≡ b
+some_same a b q = cc
+
+ok_same : {A : Type 0} (a b : A) → ◌≡◌ {A = Result A Over} (Ok a) (Ok b) → a ≡ b
+ok_same a b q = cc
 
 -- a loaded table has at most 2^20 rows
 pub few_rows : (g : Given) → length g.table.rows ≤ 2 ^ 20
@@ -162,9 +169,6 @@ few_rows g = by g.ts g.source.table g.over.stored g.can.database.short
     by (t ∷ ts) zero e h = subst (λ (u : Table). length u.rows ≤ 2 ^ 20) (some_same t g.table e) (all_head (λ t. length t.rows ≤ 2 ^ 20) t ts h)
     by (t ∷ ts) (suc n) e h = by ts n e (all_tail (λ t. length t.rows ≤ 2 ^ 20) t ts h)
 
-    some_same : (a b : Table) → Some a ≡ Some b → a ≡ b
-    some_same a b q = cc
-
 -- what is kept is no more than there was
 kept_few : {A : Type 0} (c : A → Valued) (rows left : List A) → overs.kept c rows ≡ Ok left → length left ≤ length rows
 kept_few c rows left e = by (each c rows) e
@@ -173,19 +177,16 @@ kept_few c rows left e = by (each c rows) e
     by (Ok truths) q = subst (λ (l : List _). length l ≤ length rows) (ok_same (filter (λ row. overs.is_met (c row)) rows) left q) (filter_few (λ row. overs.is_met (c row)) rows)
     by (Err o) q = absurd cc
 
-    ok_same : (a b : List _) → Ok a ≡ Ok b → a ≡ b
-    ok_same a b q = cc
-
-met_few : (g : Given) → length (map alone (met_rows g.source g.table)) ≤ 2 ^ 20
+pub met_few : (g : Given) → length (map alone (met_rows g.source g.table)) ≤ 2 ^ 20
 met_few g = omega (arith, length-map (met_rows g.source g.table) alone, filter_few (meets g.source.filter) g.table.rows, few_rows g)
 
-where_few : (g : Given) (rows : List FromRow) → where_rows g.plan g.source g.table ≡ Ok rows → length rows ≤ 2 ^ 20
+pub where_few : (g : Given) (rows : List FromRow) → where_rows g.plan g.source g.table ≡ Ok rows → length rows ≤ 2 ^ 20
 where_few g rows e = omega (arith, kept_few (λ row. condition g.plan.filter (on_row row)) (map alone (met_rows g.source g.table)) rows e, met_few g)
 
-where_members : Premises → (g : Given) (rows : List FromRow) → where_rows g.plan g.source g.table ≡ Ok rows → All (IsRowOf g.table) rows
+pub where_members : Premises → (g : Given) (rows : List FromRow) → where_rows g.plan g.source g.table ≡ Ok rows → All (IsRowOf g.table) rows
 where_members h g rows e = h.members.kept_rows g.table (λ row. condition g.plan.filter (on_row row)) (map alone (met_rows g.source g.table)) rows e (all_rows h g)
 
-where_made : RunLaws → Premises → (g : Given) (b : Base) (next : ℕ) (between : Env) → RowsStand g (map alone (met_rows g.source g.table)) b next between → Delivers (store g) (kept g.select (texts g) b g.plan.filter) next between (where_rows g.plan g.source g.table) (RowsStand g)
+pub where_made : RunLaws → Premises → (g : Given) (b : Base) (next : ℕ) (between : Env) → RowsStand g (map alone (met_rows g.source g.table)) b next between → Delivers (store g) (kept g.select (texts g) b g.plan.filter) next between (where_rows g.plan g.source g.table) (RowsStand g)
 where_made laws h g b next between (stands, (below, places)) =
     let rows = map alone (met_rows g.source g.table) in
     let values = (h.places g.defs g.ts g.plan g.source g.def g.table b g.can g.over places).filter in
@@ -196,100 +197,3 @@ where_made laws h g b next between (stands, (below, places)) =
     so : (left : List FromRow) (c : Base) (n : ℕ) (after : Env) → where_rows g.plan g.source g.table ≡ Ok left → (RowsKept g b) left c n after → RowsStand g left c n after
     so left c n after e (stand, (name, same)) = (stand, (name, has_same 0 g.source.columns b c same places))
 
--- ---- the items of rows, or of groups
-
-abbrev clauses : Given → Clauses
-clauses g = clauses_of_plan g.plan
-
-abbrev AnswerAt : Given → List Row → Label → ℕ → Env → Type 0
-AnswerAt g rows name next after = HoldsAt (texts g) (length g.plan.items) rows name next after
-
-abbrev MadeItems : Given → List OutputRow → Label → ℕ → Env → Type 0
-MadeItems g outputs name next after = (v : Vector) × (Sees after name v × (ShowsItems (texts g) (length g.plan.items) (answer_rows (clauses g) outputs) v × IsBelow next name))
-
-items_made : {A : Type 0} (laws : RunLaws) (g : Given) (on : A → On) (len : ℕ) (rows : List A) (b : Base) (k : ℕ) (env : Env)
-    → All (CanValue (types_of g.plan.aggregates) b) g.plan.items → All (CanValueAll (texts g) (types_of g.plan.aggregates) on rows) g.plan.items → All (λ key. IsKeyOf (length g.plan.items) b key.key) g.plan.order → All (λ key. key_alike (texts g) on rows key.key) g.plan.order
-    → IsBelow k b.vector → Stands (texts g) b on len rows env
-    → Delivers (store g) (items_on (texts g) g.plan b) k env (overs.◌>>=◌ (each (λ a. output_row (clauses g) (on a)) rows) (λ outputs. Ok (answer_rows (clauses g) outputs))) (AnswerAt g)
-items_made {A} laws g on len rows b k env values asked keys alike below stands =
-    delivers_less (store g) (items_on (texts g) g.plan b) k env (each (λ a. output_row (clauses g) (on a)) rows) (answer_rows (clauses g)) (MadeItems g) (AnswerAt g) (λ outputs name next after e h. (h.0, (h.1.0, h.1.1.0)))
-    (laws.items_run A (texts g) (types_of g.plan.aggregates) on (clauses g) len rows b k (store g) env values asked g.can.well_formed.few_items g.can.well_formed.few_keys keys alike below stands)
-
-abbrev GroupsStand : Given → List On → Base → ℕ → Env → Type 0
-GroupsStand g groups c next after = (count : ℕ) × (Stands (texts g) c itself count groups after × (IsBelow next c.vector × HasGroupPlaces (clauses g) c))
-
-abbrev GroupsMade : Given → List On → Base → ℕ → Env → Type 0
-GroupsMade g groups c next after = (count : ℕ) × (Stands (texts g) c itself count groups after × (IsBelow next c.vector × (All (λ u. list_any (λ p. same_column p.column u) c.columns ≡ true) g.plan.groups × ((n : ℕ) → n < length g.plan.aggregates → list_any (λ p. p.aggregate == n) c.aggregates ≡ true))))
-
-having_made : RunLaws → Premises → (g : Given) → g.plan.grouped ≡ true → (rows : List FromRow) → All (IsRowOf g.table) rows → length rows ≤ 2 ^ 20 → (b : Base) (k : ℕ) (env : Env) → RowsStand g rows b k env
-    → Delivers (store g) (stands_on g.select (texts g) g.plan true b) k env (having_groups g.plan rows) (GroupsStand g)
-having_made laws h g is rows members few b k env (stands, (below, places)) =
-    let values = (h.places g.defs g.ts g.plan g.source g.def g.table b g.can g.over places).grouping in
-    let asked = (h.rows g.defs g.ts g.plan g.source g.def g.table rows g.can g.over members few).grouping in
-    delivers_then (store g) (grouped (texts g) b g.plan.groups g.plan.aggregates) (λ c. kept g.select (texts g) c (option_to_list g.plan.having)) k env (each (on_group (clauses g)) (groups_of g.plan.groups rows)) (GroupsMade g)
-    (λ groups. overs.kept (λ on. condition (option_to_list g.plan.having) (itself on)) groups) (GroupsStand g)
-    (laws.grouped_run (texts g) (clauses g) (length g.table.rows) rows b k (store g) env values asked below stands) kept_groups
-  where
-    still_places : (c d : Base) → SamePlaces c d → HasGroupPlaces (clauses g) c → HasGroupPlaces (clauses g) d
-    still_places c d s p = record {
-      columns = subst (λ (l : List ColumnPlace). All (λ u. list_any (λ p. same_column p.column u) l ≡ true) g.plan.groups) (sym s.columns) p.columns;
-      aggregates = λ n less. ap (λ (l : List AggregatePlace). list_any (λ p. p.aggregate == n) l) s.aggregates ∙ p.aggregates n less;
-    }
-
-    kept_groups : (groups : List On) → each (on_group (clauses g)) (groups_of g.plan.groups rows) ≡ Ok groups → Behind (store g) (λ c. kept g.select (texts g) c (option_to_list g.plan.having)) k env (GroupsMade g groups) (overs.kept (λ on. condition (option_to_list g.plan.having) (itself on)) groups) (GroupsStand g)
-    kept_groups groups made c next between le (count, (stand, (name, (columns, aggregates)))) still =
-        let places_of : HasGroupPlaces (clauses g) c = record { columns = columns; aggregates = aggregates } in
-        let having = (h.group_places g.defs g.ts g.plan g.source g.def g.table c g.can g.over is places_of).having in
-        let stood = (h.groups g.defs g.ts g.plan g.source g.def g.table rows groups g.can g.over members (h.members.groups g.plan rows groups made)).having in
-        delivers_same (store g) (kept g.select (texts g) c (option_to_list g.plan.having)) next between (overs.kept (λ on. condition (option_to_list g.plan.having) (itself on)) groups) (λ left d n after. Stands (texts g) d itself count left after × (IsBelow n d.vector × SamePlaces c d)) (GroupsStand g)
-        (λ left d n after e t. (count, (t.0, (t.1.0, still_places c d t.1.1 places_of))))
-        (laws.kept_run On g.select (texts g) (types_of g.plan.aggregates) itself count groups c (option_to_list g.plan.having) next (store g) between (having_conditions g.plan.having g.can.well_formed.typed.having) having stood name stand)
-
--- the groups that are left are groups
-left_groups : Premises → (g : Given) (rows : List FromRow) (left : List On) → having_groups g.plan rows ≡ Ok left → All (IsGroupOf (clauses g) rows) left
-left_groups h g rows left e = by (each (on_group (clauses g)) (groups_of g.plan.groups rows)) refl e
-  where
-    by : (r : Result (List On) Over) → each (on_group (clauses g)) (groups_of g.plan.groups rows) ≡ r → overs.◌>>=◌ r (λ groups. overs.kept (λ on. condition (option_to_list g.plan.having) (itself on)) groups) ≡ Ok left → All (IsGroupOf (clauses g) rows) left
-    by (Ok groups) made q = h.members.kept_groups g.plan rows (λ on. condition (option_to_list g.plan.having) (itself on)) groups left q (h.members.groups g.plan rows groups made)
-    by (Err o) made q = absurd cc
-
--- ---- behind WHERE
-
-grouped_made : RunLaws → Premises → (g : Given) → g.plan.grouped ≡ true → (rows : List FromRow) → All (IsRowOf g.table) rows → length rows ≤ 2 ^ 20 → (b : Base) (k : ℕ) (env : Env) → RowsStand g rows b k env
-    → Delivers (store g) (stands_on g.select (texts g) g.plan true b >>= items_on (texts g) g.plan) k env (overs.◌>>=◌ (having_groups g.plan rows) (λ groups. overs.◌>>=◌ (each (λ on. output_row (clauses g) (itself on)) groups) (λ outputs. Ok (answer_rows (clauses g) outputs)))) (AnswerAt g)
-grouped_made laws h g is rows members few b k env stands =
-    delivers_then (store g) (stands_on g.select (texts g) g.plan true b) (items_on (texts g) g.plan) k env (having_groups g.plan rows) (GroupsStand g) (λ groups. overs.◌>>=◌ (each (λ on. output_row (clauses g) (itself on)) groups) (λ outputs. Ok (answer_rows (clauses g) outputs))) (AnswerAt g)
-    (having_made laws h g is rows members few b k env stands)
-    (λ groups made c next between le t still.
-    let places = h.group_places g.defs g.ts g.plan g.source g.def g.table c g.can g.over is t.1.1.1 in
-    let stood = h.groups g.defs g.ts g.plan g.source g.def g.table rows groups g.can g.over members (left_groups h g rows groups made) in
-    items_made laws g itself t.0 groups c next between places.items stood.items places.keys stood.keys t.1.1.0 t.1.0)
-
-plain_made : RunLaws → Premises → (g : Given) → g.plan.grouped ≡ false → (rows : List FromRow) → All (IsRowOf g.table) rows → length rows ≤ 2 ^ 20 → (b : Base) (k : ℕ) (env : Env) → RowsStand g rows b k env
-    → Delivers (store g) (stands_on g.select (texts g) g.plan false b >>= items_on (texts g) g.plan) k env (overs.◌>>=◌ (each (λ row. output_row (clauses g) (on_row row)) rows) (λ outputs. Ok (answer_rows (clauses g) outputs))) (AnswerAt g)
-plain_made laws h g is rows members few b k env (stands, (below, places)) =
-    let values = h.places g.defs g.ts g.plan g.source g.def g.table b g.can g.over places in
-    let asked = h.rows g.defs g.ts g.plan g.source g.def g.table rows g.can g.over members few in
-    items_made laws g on_row (length g.table.rows) rows b k env (values.items is) (asked.items is) values.keys asked.keys below stands
-
-behind_made : RunLaws → Premises → (g : Given) (q : Bool) → g.plan.grouped ≡ q → (b : Base) (k : ℕ) (env : Env) → RowsStand g (map alone (met_rows g.source g.table)) b k env → Delivers (store g) (behind_rows g.select (texts g) g.plan b) k env (plan_answer g.ts g.plan) (AnswerAt g)
-behind_made laws h g true is b k env stands =
-    subst (λ (r : Result (List Row) Over). Delivers (store g) (behind_rows g.select (texts g) g.plan b) k env r (AnswerAt g)) (sym (h.shapes.grouped g.defs g.ts g.plan g.source g.def g.table g.over is))
-    (delivers_then (store g) (kept g.select (texts g) b g.plan.filter) (behind_where g.select (texts g) g.plan) k env (where_rows g.plan g.source g.table) (RowsStand g) (λ rows. overs.◌>>=◌ (having_groups g.plan rows) (λ groups. overs.◌>>=◌ (each (λ on. output_row (clauses g) (itself on)) groups) (λ outputs. Ok (answer_rows (clauses g) outputs)))) (AnswerAt g)
-    (where_made laws h g b k env stands)
-    (λ rows made c next between le t still.
-    subst (λ (u : Bool). Delivers (store g) (stands_on g.select (texts g) g.plan u c >>= items_on (texts g) g.plan) next between (overs.◌>>=◌ (having_groups g.plan rows) (λ groups. overs.◌>>=◌ (each (λ on. output_row (clauses g) (itself on)) groups) (λ outputs. Ok (answer_rows (clauses g) outputs)))) (AnswerAt g)) (sym is)
-    (grouped_made laws h g is rows (where_members h g rows made) (where_few g rows made) c next between t)))
-behind_made laws h g false is b k env stands =
-    subst (λ (r : Result (List Row) Over). Delivers (store g) (behind_rows g.select (texts g) g.plan b) k env r (AnswerAt g)) (sym (h.shapes.plain g.defs g.ts g.plan g.source g.def g.table g.over is))
-    (delivers_then (store g) (kept g.select (texts g) b g.plan.filter) (behind_where g.select (texts g) g.plan) k env (where_rows g.plan g.source g.table) (RowsStand g) (λ rows. overs.◌>>=◌ (each (λ row. output_row (clauses g) (on_row row)) rows) (λ outputs. Ok (answer_rows (clauses g) outputs))) (AnswerAt g)
-    (where_made laws h g b k env stands)
-    (λ rows made c next between le t still.
-    subst (λ (u : Bool). Delivers (store g) (stands_on g.select (texts g) g.plan u c >>= items_on (texts g) g.plan) next between (overs.◌>>=◌ (each (λ row. output_row (clauses g) (on_row row)) rows) (λ outputs. Ok (answer_rows (clauses g) outputs))) (AnswerAt g)) (sym is)
-    (plain_made laws h g is rows (where_members h g rows made) (where_few g rows made) c next between t)))
-
--- the whole
-pub body_made : RunLaws → Premises → (g : Given) → Delivers (store g) (body g.select (texts g) g.defs g.plan) 0 nothing (plan_answer g.ts g.plan) (AnswerAt g)
-body_made laws h g =
-    makes_then (store g) (from_rows g.select (texts g) g.defs g.plan.sources) (behind_rows g.select (texts g) g.plan) 0 nothing (RowsStand g (map alone (met_rows g.source g.table))) (plan_answer g.ts g.plan) (AnswerAt g) (from_made laws h g)
-    (λ b next between le stands still. behind_made laws h g g.plan.grouped refl b next between stands)

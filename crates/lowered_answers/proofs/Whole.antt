@@ -27,9 +27,11 @@ use Rattle.lowered_premises.specs.Laws.{SourceLaw}
 use Rattle.lowered_answers.specs.Holding.{HoldsRows}
 use Rattle.lowered_answers.specs.Laws.{PassesCheck, CheckLaw, HoldsAnswer, AnswerLaw}
 use Rattle.lowered_answers.proofs.Bodies.{body, program_is}
-use Rattle.lowered_answers.proofs.Runs.{RunLaws, Premises, Given, texts, store, HoldsAt, body_made}
+use Rattle.lowered_answers.proofs.Outlined.{no_limit}
+use Rattle.lowered_answers.proofs.Runs.{RunLaws, Premises, Given, texts, store, HoldsAt}
+use Rattle.lowered_answers.proofs.Made.{body_made}
 use Rattle.lowered_answers.proofs.Uses.{UseLaws, body_used}
-use Rattle.lowered_answers.proofs.Checks.{PassLaws, PlacesLaws, body_passes, no_limit, passes_check}
+use Rattle.lowered_answers.proofs.Checks.{PassLaws, PlacesLaws, body_passes, passes_check}
 use Rattle.lowered_answers.proofs.Lists.{all_none}
 use Rattle.lowered_answers.proofs.Short.{SizeLaws, program_short}
 
@@ -67,17 +69,18 @@ means a g (Ok rows) made =
     (record { vector = v; one = refl; fit = h.fit; holds = h.holds; alone = h.alone })
 
 ended_is : (g : Given) → lowered g.select (database_of g.defs g.ts) g.plan ≡ ended g
+unfolding lowered database_of
 ended_is g = program_is g.select (texts g) g.defs g.plan
 
-given : SourceLaw → (select : Control) (defs : List TableDef) (ts : List Table) (p : RelPlan) → CanLower defs ts p → Given
+abbrev given : SourceLaw → (select : Control) (defs : List TableDef) (ts : List Table) (p : RelPlan) → CanLower defs ts p → Given
 given source select defs ts p can =
     let x = source defs ts p can in
-    record { select = select; defs = defs; ts = ts; plan = p; source = x.0; def = x.1.0; table = x.1.1.0; can = can; over = x.1.1.1 }
+    record { select = select; defs = defs; ts = ts; plan = p; source = x.0; def = x.1; table = x.2; can = can; over = x.3 }
 
 pub answer_holds : AllLaws → SourceLaw → AnswerLaw
 answer_holds a source select defs ts p can =
     let g = given source select defs ts p can in
-    subst (λ (l : List Statement). HoldsAnswer (texts g) (length p.items) (plan_answer ts p) (meaning (store g) l)) (sym (ended_is g)) (means a g (plan_answer ts p) (body_made a.runs a.premises g))
+    subst (λ (l : List Statement). HoldsAnswer (texts g) (length p.items) (plan_answer ts p) (meaning (store g) l)) (sym (ended_is g)) (means a g (plan_answer ts p) (body_made a.meanings a.runs a.premises a.passes g))
 
 pub check_holds : AllLaws → SourceLaw → SizeLaws → CheckLaw
 check_holds a source sizes select defs ts p can =
