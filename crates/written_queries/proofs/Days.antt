@@ -7,7 +7,7 @@ use Rattle.number_fields.specs.Ranges.{lies_between}
 use Rattle.civil_days.specs.Dates.{day_number, in_range}
 use Rattle.table_load.proofs.DayLaws.{date_range}
 
-ranged : (z : ℤ) → lies_between (negsuc 719_161) (pos 2_932_896) z ≡ true → in_range z ≡ true
+pub ranged : (z : ℤ) → lies_between (negsuc 719_161) (pos 2_932_896) z ≡ true → in_range z ≡ true
 ranged (pos n) h = (and_parts (int_le (negsuc 719_161) (pos n)) (int_le (pos n) (pos 2_932_896)) h).1
 ranged (negsuc n) h =
     let low : nat_le n 719_161 ≡ true = (and_parts (int_le (negsuc 719_161) (negsuc n)) (int_le (negsuc n) (pos 2_932_896)) h).0 in

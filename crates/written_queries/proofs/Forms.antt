@@ -1,11 +1,9 @@
 -- The literals of each form that typing gives are as the grammar has them, where those of its operands are, and its scale is at most 36.
-use Rattle.std.proofs.Common.{◌≡◌, ◌∙◌, ℕ, ℤ, pos, negsuc, ◌+◌, ◌^◌, ◌≤◌, ◌<◌, ◌==◌, Bool, true, not, ◌&&◌, List, [], ◌∷◌, map, max, Ok, refl, subst, ap, arith}
+use Rattle.std.proofs.Common.{◌≡◌, ◌∙◌, ℕ, ℤ, ◌+◌, ◌^◌, ◌≤◌, ◌==◌, Bool, true, not, ◌&&◌, List, [], ◌∷◌, map, max, Ok, refl, subst, ap, arith}
 use Rattle.std.specs.Prelude.{All, nat_le}
 use Rattle.std.specs.List.{list_all}
 use Rattle.std.proofs.lemmas.Bool.{not-false, and_from, and_parts, le-leb, leb-true, lt-ltb}
 use Rattle.std.proofs.lemmas.List.Elements.{All-head, All-tail}
-use Rattle.std.proofs.lemmas.Bool.Decides.{nat_tests}
-use Rattle.control_vectors.specs.Slots.{fits_128}
 use Rattle.civil_days.specs.Dates.{in_range}
 use Rattle.sql_read.specs.Lexis.{max_integer, max_scale}
 use Rattle.sql_read.specs.declared.definition.ColumnKind.{ColumnKind}
@@ -35,13 +33,14 @@ use Rattle.query_types.specs.Names.{Scope, column}
 use Rattle.query_types.specs.Expressions as t
 use Rattle.query_types.specs.Expressions.{values, scales}
 use Rattle.query_types.proofs.OutcomeLaws.{ok_same, then_ok, not_refused}
-use Rattle.expr_values.specs.Written.{fits_127, is_scale, kind_scale, is_written}
+use Rattle.expr_values.specs.Written.{fits_127, is_scale}
+use Rattle.written_queries.specs.Laws.{column_scale, is_as_written}
 use Rattle.written_queries.specs.Scales.{IsScaledAs, HasScales}
 use Rattle.written_queries.proofs.Columns.{named_scaled}
 use Rattle.written_queries.proofs.WrittenForms.{written_Number, written_Text, written_Date, written_Column, written_Aggregate, written_Signed, written_Not, written_Binary, written_Divide, written_Between, written_In, written_IsNull, written_Coalesce}
 
 pub record Good (x : Typed) : Type 0 where
-  pub written : is_written x.value ≡ true
+  pub written : is_as_written x.value ≡ true
   pub scale : x.scale ≤ 36
 
 abbrev pub AreGood : List Typed → Type 0
@@ -64,17 +63,11 @@ column_most column.Date n h = omega (arith, h)
 column_most column.Text n h = omega (arith, h)
 column_most column.Decimal n h = omega (arith, h)
 
-column_kind : (kind : ColumnKind) (n : ℕ) → IsScaledAs kind n → kind_scale (kind_of kind) n ≡ true
-column_kind column.Integer n h = scaled n (column_most column.Integer n h)
-column_kind column.Date n h = scaled n (column_most column.Date n h)
+column_kind : (kind : ColumnKind) (n : ℕ) → IsScaledAs kind n → column_scale kind n ≡ true
+column_kind column.Integer n h = ap (λ (m : ℕ). m == 0) h
+column_kind column.Date n h = ap (λ (m : ℕ). m == 0) h
 column_kind column.Text n h = ap (λ (m : ℕ). m == 0) h
-column_kind column.Decimal n h = scaled n (column_most column.Decimal n h)
-
-day_fits : (day : ℤ) → in_range day ≡ true → fits_128 day ≡ true
-day_fits (pos n) h = lt-ltb n (2 ^ 127) (omega (arith, leb-true n 2932896 h, most_127))
-day_fits (negsuc n) h =
-    let low : n < 719162 = grind (arith, nat_tests, h) in
-    lt-ltb n (2 ^ 127) (omega (arith, low, most_127))
+column_kind column.Decimal n h = le-leb n max_scale h
 
 -- ---- literals and columns
 
@@ -85,7 +78,7 @@ number_good n scale h =
     record { written = written_Number n scale ∙ and_from (fits_127 n) (is_scale scale) (fits n both.0) (scaled scale most); scale = most }
 
 pub date_good : (day : ℤ) → in_range day ≡ true → Good (t.typed_as Date 0 (e.Date day))
-date_good day h = record { written = written_Date day ∙ day_fits day h; scale = omega arith }
+date_good day h = record { written = written_Date day ∙ h; scale = omega arith }
 
 pub text_good : (role : Role) (text : List ℕ) (at : ℕ) (x : Typed) → t.literal role text at ≡ Ok x → Good x
 text_good Side text at x is = subst Good (ok_same (t.typed_as Text 0 (e.Text text)) x is) (record { written = written_Text text; scale = omega arith })
@@ -152,7 +145,7 @@ binary_good o at a b x h g is =
     let y = not_refused (not (takes (family_of o) a.kind b.kind)) TypesDiffer at _ x is in
     let z = not_refused (not (scale_fits o a.scale b.scale)) ScaleTooLarge at _ x y.1 in
     subst Good (ok_same (t.typed_as (makes (family_of o)) (binary_scale o a.scale b.scale) (e.Binary o a.value b.value)) x z.1) (record {
-      written = written_Binary o a.value b.value ∙ and_from (is_written a.value) (is_written b.value) h.written g.written;
+      written = written_Binary o a.value b.value ∙ and_from (is_as_written a.value) (is_as_written b.value) h.written g.written;
       scale = operator_scale o a.scale b.scale h.scale g.scale (not-false (scale_fits o a.scale b.scale) z.0);
     })
 
@@ -162,7 +155,7 @@ divided_good at a d x most h is =
     let y = not_refused (d.value == 0) ZeroDivisor d.value_at _ x is in
     let z = not_refused (not (is_number a.kind)) TypesDiffer at _ x y.1 in
     subst Good (ok_same (t.typed_as Number a.scale (e.Divide a.value (t.sign_or_plus d.sign) d.value)) x z.1) (record {
-      written = written_Divide a.value (t.sign_or_plus d.sign) d.value ∙ and_from (fits_127 d.value) (is_written a.value) (fits d.value most) h.written;
+      written = written_Divide a.value (t.sign_or_plus d.sign) d.value ∙ and_from (fits_127 d.value) (is_as_written a.value) (fits d.value most) h.written;
       scale = h.scale;
     })
 
@@ -171,7 +164,7 @@ unfolding t.between
 between_good p at a low high x h g i is =
     let y = not_refused (not (compare a.kind low.kind && compare a.kind high.kind)) TypesDiffer at _ x is in
     subst Good (ok_same (t.typed_as Truth 0 (e.Between p a.value low.value high.value)) x y.1) (record {
-      written = written_Between p a.value low.value high.value ∙ and_from (is_written a.value) _ h.written (and_from (is_written low.value) (is_written high.value) g.written i.written);
+      written = written_Between p a.value low.value high.value ∙ and_from (is_as_written a.value) _ h.written (and_from (is_as_written low.value) (is_as_written high.value) g.written i.written);
       scale = omega arith;
     })
 
@@ -183,13 +176,13 @@ null_test_good p at a x h is =
 
 -- ---- lists of operands
 
-list_written : (ts : List Typed) → AreGood ts → list_all (λ (b : Bool). b) (map is_written (values ts)) ≡ true
+list_written : (ts : List Typed) → AreGood ts → list_all (λ (b : Bool). b) (map is_as_written (values ts)) ≡ true
 list_written [] h = refl
 list_written (x ∷ ts) h =
-    and_from (is_written x.value) (list_all (λ (b : Bool). b) (map is_written (values ts))) (All-head Good x ts h).written (list_written ts (All-tail Good x ts h))
+    and_from (is_as_written x.value) (list_all (λ (b : Bool). b) (map is_as_written (values ts))) (All-head Good x ts h).written (list_written ts (All-tail Good x ts h))
 
-all_written : (a : Typed) (ts : List Typed) → Good a → AreGood ts → (is_written a.value && list_all (λ (b : Bool). b) (map is_written (values ts))) ≡ true
-all_written a ts h g = and_from (is_written a.value) (list_all (λ (b : Bool). b) (map is_written (values ts))) h.written (list_written ts g)
+all_written : (a : Typed) (ts : List Typed) → Good a → AreGood ts → (is_as_written a.value && list_all (λ (b : Bool). b) (map is_as_written (values ts))) ≡ true
+all_written a ts h g = and_from (is_as_written a.value) (list_all (λ (b : Bool). b) (map is_as_written (values ts))) h.written (list_written ts g)
 
 greatest_most : (s : ℕ) (ts : List Typed) → s ≤ 36 → AreGood ts → greatest s (scales ts) ≤ 36
 greatest_most s [] h g = h

@@ -1,11 +1,11 @@
-mod Days
+pub mod Days
 mod BoundedForms
 mod Keeping
 mod Literals
 mod Texts
 mod Scales
 mod Columns
-mod WrittenForms
+pub mod WrittenForms
 mod Forms
 mod Steps
 mod Trees
@@ -13,4 +13,5 @@ mod Parts
 mod Clauses
 mod Queries
 mod Plans
+pub mod Ranges
 mod Lowerable

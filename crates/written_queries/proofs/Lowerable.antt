@@ -25,6 +25,7 @@ use Rattle.rel_plan.specs.Pushes.{pushed}
 use Rattle.read_queries.specs.Laws.{AnswerLaw}
 use Rattle.plan_laws.specs.WellFormed.{query_of, WellFormedLaws}
 use Rattle.written_queries.specs.Laws.{IsAsWritten}
+use Rattle.written_queries.proofs.Ranges.{within_ranges}
 use Rattle.written_queries.specs.Plans.{PlanWritten, IsLowerablePlan, LowerableLaw}
 
 apart : (xs ys : List TypedExpr) → All IsAsWritten (xs ++ ys) → All IsAsWritten xs × All IsAsWritten ys
@@ -35,7 +36,7 @@ apart (x ∷ xs) ys h =
 
 module _ (at : ℕ → Option DataType) (aggregates : AreScaled at) (allowed : Kind → Bool) where
   lower : (e : TypedExpr) → HasType at allowed e → IsAsWritten e → IsLowerable at e
-  lower e h g = record { type = h.type; is = h.is; aggregates = aggregates; sides = h.sides; written = g }
+  lower e h g = record { type = h.type; is = h.is; aggregates = aggregates; sides = h.sides; written = within_ranges e g }
 
   lower_all : (es : List TypedExpr) → All (HasType at allowed) es → All IsAsWritten es → All (IsLowerable at) es
   lower_all [] h g = All-nil (IsLowerable at)
@@ -67,7 +68,7 @@ argument_lowers : (kind : AggregateKind) (o : Option TypedExpr) → IsSome (argu
 argument_lowers kind None h sides g = λ e none. absurd (cc)
 argument_lowers kind (Some x) h sides g =
     let t = argument_typed kind (type_of no_aggregate x) h in
-    λ e same. subst (IsLowerable no_aggregate) (some_same x e same) (record { type = t.0; is = t.1; aggregates = none_scaled; sides = sides x refl; written = All-head IsAsWritten x [] g })
+    λ e same. subst (IsLowerable no_aggregate) (some_same x e same) (record { type = t.0; is = t.1; aggregates = none_scaled; sides = sides x refl; written = within_ranges x (All-head IsAsWritten x [] g) })
 
 abbrev Folds : Aggregate → Type 0
 Folds a = ForSome a.argument (IsLowerable no_aggregate)

@@ -10,8 +10,7 @@ use Rattle.typed_trees.specs.declared.typed.TypedExpr.TheFolds.{map-TypedExpr, i
 use Rattle.typed_trees.specs.declared.typed.TypedExpr.TheVariants.{rolls-Binary}
 use Rattle.query_types.specs.Conjuncts.{Parts, form_parts, joined_parts, parts, is_and}
 use Rattle.query_types.proofs.Parts.{and-parts, binary-alone}
-use Rattle.expr_values.specs.Written.{is_written}
-use Rattle.written_queries.specs.Laws.{IsAsWritten}
+use Rattle.written_queries.specs.Laws.{IsAsWritten, is_as_written}
 use Rattle.written_queries.proofs.WrittenForms.{written_roll}
 
 abbrev IsParted : TypedExpr → Type 0
@@ -30,7 +29,7 @@ binary o x y h g whole = by (is_and o) refl
   where
     by : (b : Bool) → is_and o ≡ b → All IsAsWritten (parts (roll-TypedExpr (TypedExpr-F.Binary o x y)))
     by true is =
-        let both = and_parts (is_written x) (is_written y) (sym (written_roll (TypedExpr-F.Binary o x y)) ∙ whole) in
+        let both = and_parts (is_as_written x) (is_as_written y) (sym (written_roll (TypedExpr-F.Binary o x y)) ∙ whole) in
         All-same IsAsWritten (parts (roll-TypedExpr (TypedExpr-F.Binary o x y))) (parts x ++ parts y) (and-parts (roll-TypedExpr (TypedExpr-F.Binary o x y)) o x y (rolls-Binary o x y) is)
         (All-append IsAsWritten (parts x) (parts y) (h both.0) (g both.1))
     by false is =

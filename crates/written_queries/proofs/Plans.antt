@@ -8,12 +8,11 @@ use Rattle.typed_trees.specs.declared.typed.Aggregate.{Aggregate}
 use Rattle.typed_trees.specs.declared.typed.PlanSource.{PlanSource}
 use Rattle.typed_trees.specs.declared.typed.TypedExpr.{TypedExpr}
 use Rattle.typed_trees.specs.declared.typed.TypedQuery.{TypedQuery}
-use Rattle.expr_values.specs.Written.{is_written}
 use Rattle.rel_plan.specs.Plans.{conditions_of_sources, arguments_of, expressions, plan_of}
 use Rattle.rel_plan.specs.Prunes.{pruned}
 use Rattle.rel_plan.specs.Pushes.{pushed}
 use Rattle.plan_laws.specs.Sizes.{SizeLaws}
-use Rattle.written_queries.specs.Laws.{IsAsWritten, IsWritten, WrittenLaw}
+use Rattle.written_queries.specs.Laws.{IsAsWritten, IsWritten, WrittenLaw, is_as_written}
 use Rattle.written_queries.specs.Plans.{PlanWritten}
 
 -- ---- what is written weighs nothing
@@ -23,7 +22,7 @@ weight_by true = 0
 weight_by false = 1
 
 abbrev weight : TypedExpr → ℕ
-weight e = weight_by (is_written e)
+weight e = weight_by (is_as_written e)
 
 all_weigh : (es : List TypedExpr) → All IsAsWritten es → sum_by weight es ≡ 0
 all_weigh [] h = refl
@@ -41,7 +40,7 @@ none_weigh (e ∷ es) h =
     let sum = sum_by-cons weight e es in
     let one : weight e ≡ 0 = omega (arith, sum, h) in
     let rest : sum_by weight es ≡ 0 = omega (arith, sum, h) in
-    All-cons IsAsWritten e es (weightless (is_written e) one) (none_weigh es rest)
+    All-cons IsAsWritten e es (weightless (is_as_written e) one) (none_weigh es rest)
 
 -- ---- the plan of a query
 

@@ -1,5 +1,5 @@
 -- In the definitions of a schema that is read what is no decimal has no digit after the point, and a decimal has at most its digits there.
-use Rattle.std.proofs.Common.{◌≡◌, ℕ, ◌≤◌, List, [], ◌∷◌, refl, subst, arith, ⊎_elim}
+use Rattle.std.proofs.Common.{◌≡◌, ℕ, List, [], ◌∷◌, refl, subst, arith, ⊎_elim}
 use Rattle.std.specs.List.{All}
 use Rattle.std.proofs.lemmas.List.Elements.{All-nil, All-cons, All-head, All-tail, All-push}
 use Rattle.phrases.specs.Phrases.{Phrase, Both, Repeated, done, more}
@@ -116,8 +116,8 @@ schema_plain text xs ts h = ⊎_elim
 -- ---- catalogs
 
 within : (kind : ColumnKind) (width scale : ℕ) → IsPlainAs kind scale → IsSizedAs kind width scale → IsScaledAs kind scale
-within Integer width scale plain sized = omega (arith, plain)
-within Date width scale plain sized = omega (arith, plain)
+within Integer width scale plain sized = plain
+within Date width scale plain sized = plain
 within Text width scale plain sized = plain
 within Decimal width scale plain sized = omega (arith, sized.1, sized.2)
 

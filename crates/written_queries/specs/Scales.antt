@@ -2,16 +2,16 @@
 -- After SQL-92 (ISO/IEC 9075:1992), 6.1 <data type>, with this project's limits.
 use Rattle.std.specs.Prelude.{◌≡◌, ℕ, ◌≤◌, List, [], All, Ok}
 use Rattle.sql_read.specs.declared.definition.ColumnKind.{ColumnKind}
-use Rattle.sql_read.specs.declared.definition.ColumnKind.TheVariants.{Text}
+use Rattle.sql_read.specs.declared.definition.ColumnKind.TheVariants.{Decimal}
 use Rattle.sql_read.specs.declared.definition.TableDef.{TableDef}
 use Rattle.sql_read.specs.Lexis.{Bytes, max_scale}
 use Rattle.sql_read.specs.SchemaText.{schema_of}
 use Rattle.sql_types.specs.Catalog.{findings}
 
--- no digit of a text stands after a point, and at most 18 of any other column's
+-- at most 18 digits of a decimal stand after its point, and none of what is no decimal
 abbrev pub IsScaledAs : ColumnKind → ℕ → Type 0
-IsScaledAs Text scale = scale ≡ 0
-IsScaledAs kind scale = scale ≤ max_scale
+IsScaledAs Decimal scale = scale ≤ max_scale
+IsScaledAs kind scale = scale ≡ 0
 
 -- so it is in every column
 abbrev pub HasScales : List TableDef → Type 0
