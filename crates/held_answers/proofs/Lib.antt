@@ -1,0 +1,10 @@
+mod Taken
+mod Rows
+mod FromRows
+mod Aggregated
+mod Grouped
+mod Items
+mod Answers
+mod Decoded
+mod Packed
+mod Printing
