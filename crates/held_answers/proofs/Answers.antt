@@ -121,8 +121,8 @@ module _ (fit : ColumnsFit) (kinds : KindLaw) (defs : List TableDef) (ts : List 
         is = ok_same (record { column = group_value q.groups g.key; aggregate = λ n. Ok (get_or made.0 n null) }) on made.2;
         columns = λ c type declared. group_holds (λ (v : Value). is_shown texts (kind_of type.kind) v ≡ true) q.groups rows g.key c refl (λ row r. row_shown row (within row r) c type declared) group.key;
         aggregates = λ n u is.
-        let x = chosen (slice_get q.aggregates n) aggregate_type u is in
-        aggregate_shown texts kinds defs (places_of q) g.rows (λ row r. row_shown row (within row (group.within row r))) x.0 u (get_or made.0 n null) x.2 (argument n x.0 x.1) (made_at (λ a. aggregate_value a (map column_value g.rows)) q.aggregates made.0 n x.0 null made.1 x.1);
+            let x = chosen (slice_get q.aggregates n) aggregate_type u is in
+            aggregate_shown texts kinds defs (places_of q) g.rows (λ row r. row_shown row (within row (group.within row r))) x.0 u (get_or made.0 n null) x.2 (argument n x.0 x.1) (made_at (λ a. aggregate_value a (map column_value g.rows)) q.aggregates made.0 n x.0 null made.1 x.1);
       }
 
   selected_place : (b : Bool) (rows : List FromRow) (ps : List On) → is_grouped q.groups q.aggregates ≡ b → ((row : FromRow) → Contains rows row → Contains (from_rows ts q.sources) row) → selected (clauses_of q) b rows ≡ Ok ps → (on : On) → Contains ps on → IsPlace on
