@@ -99,6 +99,14 @@ mark_off i above small = All-cons (Beside (item_path i)) mark [] (mark_item i sm
 abbrev item_paths : ℕ → List TypedExpr → List Label → List Label
 item_paths = more (λ j e. item_path j)
 
+-- what each of the paths has, an item's has
+item_has : (Named : Label → Type 0) (es : List TypedExpr) (n : ℕ) → n < length es → All Named (item_paths 1 es (mark ∷ [])) → Named (item_path (n + 1))
+item_has Named es n there h = by (slice_get es n) refl
+  where
+    by : (x : Option TypedExpr) → slice_get es n ≡ x → Named (item_path (n + 1))
+    by None e = absurd (stands_there es n there e)
+    by (Some x) e = let place : 1 + n ≡ n + 1 = omega arith in subst (λ (i : ℕ). Named (item_path i)) place (each_at (λ j e. item_path j) Named 1 n es x (more_new (λ j e. item_path j) Named 1 es (mark ∷ []) h) e)
+
 module _ (values : ValuePasses) (tables : Shapes) (texts : List Bytes) (at : ℕ → Option DataType) (len : ℕ) (b : Base) (small : len ≤ 2 ^ 22) where
   item_passes : (j : ℕ) (e : TypedExpr) (r : Label) (paths : List Label) (k : ℕ) (known : Known) (items : Label) → CanValue at b e → j < 2 ^ 64 → All (Beside (item_path j)) (one r ∷ paths)
       → IsFresh k known.vectors → IsShaped len b known.vectors → Exactly len (one r ∷ paths) items known.vectors
@@ -158,15 +166,7 @@ column_named P (p ∷ places) c others h found =
 
 module _ (tables : Shapes) (len : ℕ) (b : Base) (es : List TypedExpr) (small : len ≤ 2 ^ 22) where
   item_named : (shapes : Shapes) (items : Label) (n : ℕ) → n < length es → HasShape shapes items len (item_paths 1 es (mark ∷ [])) → HasShape shapes items len (item_path (n + 1) ∷ [])
-  item_named shapes items n there h = by (slice_get es n) refl
-    where
-      by : (x : Option TypedExpr) → slice_get es n ≡ x → HasShape shapes items len (item_path (n + 1) ∷ [])
-      by None e = absurd (stands_there es n there e)
-      by (Some x) e =
-          let Named : Label → Type 0 = λ p. has_name h.outline.paths p ≡ true in
-          let place : 1 + n ≡ n + 1 = omega arith in
-          one_path shapes items len (item_paths 1 es (mark ∷ [])) (item_path (n + 1)) h
-          (subst (λ (i : ℕ). Named (item_path i)) place (each_at (λ j e. item_path j) Named 1 n es x (more_new (λ j e. item_path j) Named 1 es (mark ∷ []) h.each) e))
+  item_named shapes items n there h = one_path shapes items len (item_paths 1 es (mark ∷ [])) (item_path (n + 1)) h (item_has (λ p. has_name h.outline.paths p ≡ true) es n there h.each)
 
   key_passes : (j : ℕ) (key : OrderKey) (r : Label) (paths : List Label) (k : ℕ) (known : Known) (items keys : Label) → IsKeyOf (length es) b key.key → j < 2 ^ 64 → All (Beside (order_path j)) (one r ∷ paths)
       → IsFresh k known.vectors → IsShaped len b known.vectors → HasShape known.vectors items len (item_paths 1 es (mark ∷ [])) → HasShape known.vectors keys len (one r ∷ paths)
@@ -252,6 +252,7 @@ alone_is len items name shapes h =
     record {
       shape = record { outline = s.outline; known = s.known; len_is = s.len_is; clear = s.clear; shallow = s.shallow; each = more_old (λ j e. item_path j) Has 1 items (mark ∷ []) s.each };
       many = h.many ∙ more_long (λ j e. item_path j) 1 items (mark ∷ []);
+      named = λ n there. item_has Has items n there s.each;
     }
 
 items_alone : ValuePasses → ItemsAlone

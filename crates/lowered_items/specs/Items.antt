@@ -1,10 +1,12 @@
 -- The items of a query for each row or group, in order: the part that makes them makes the rows of the answer, passes the check and is used, as the values that it is made of are.
 -- After SQL-92 (ISO/IEC 9075:1992), 7.9 <query specification> and 13.1 <order by clause>.
-use Rattle.std.specs.Prelude.{◌≡◌, ℕ, ◌+◌, ◌-◌, ◌≤◌, ◌^◌, true, List, [], ◌∷◌, All, map, length, Option}
+use Rattle.std.specs.Prelude.{◌≡◌, ℕ, ◌+◌, ◌-◌, ◌<◌, ◌≤◌, ◌^◌, true, List, [], ◌∷◌, All, map, length, Option, is_some}
 use Rattle.std.specs.List.{range_with_len}
+use Rattle.std.specs.Map.{lookup}
 use Rattle.std.specs.Option.{option_cmp}
 use Rattle.std.specs.Ordering.{int_cmp}
-use Rattle.programs.specs.Mentions.{Label}
+use Rattle.std.specs.Str.{bytes_eq}
+use Rattle.programs.specs.Mentions.{Label, has_name}
 use Rattle.programs.specs.Outlines.{Shapes, outlines}
 use Rattle.programs.specs.Vectors.{Vector, Env}
 use Rattle.sql_values.specs.Values.{Value, by_value}
@@ -58,6 +60,7 @@ ItemsRun = KindLaw → KnownLaw → CodesCompare → ValueRuns → ItemsMade
 pub record IsAlone (shapes : Shapes) (name : Label) (len items : ℕ) : Type 0 where
   pub shape : HasShape shapes name len (mark ∷ [])
   pub many : length shape.outline.paths ≡ items + 1
+  pub named : (k : ℕ) → k < items → has_name shape.outline.paths (item_path (k + 1)) ≡ true
 
 -- the part passes, and makes no other attribute
 abbrev pub ItemsAlone : Type 0
@@ -73,6 +76,14 @@ abbrev pub HoldLaw : Type 0
 HoldLaw =
     (texts : List Bytes) (items : ℕ) (rows : List Row) (v : Vector) (env : Env) (shapes : Shapes) (name : Label) (len : ℕ)
     → ShowsItems texts items rows v → Sees env name v → outlines env name ≡ shapes name → IsAlone shapes name len items → HoldsItems texts items rows v
+
+-- the attributes themselves: where a vector has no place, its slots do not tell them
+pub record HasItemPaths (count : ℕ) (v : Vector) : Type 0 where
+  pub items : (k : ℕ) → k < count → is_some (lookup (bytes_eq (item_path (k + 1))) v.attributes) ≡ true
+  pub mark_is : is_some (lookup (bytes_eq mark) v.attributes) ≡ true
+
+abbrev pub PathLaw : Type 0
+PathLaw = (items : ℕ) (v : Vector) (env : Env) (shapes : Shapes) (name : Label) (len : ℕ) → Sees env name v → outlines env name ≡ shapes name → IsAlone shapes name len items → HasItemPaths items v
 
 abbrev pub ItemsUse : Type 0
 ItemsUse = ValueUses → ItemsUses
