@@ -37,9 +37,9 @@ use Rattle.held_rows.specs.Held.{Holds, Told, column, one, packed}
 use Rattle.program_writers.specs.Statements.{mark}
 use Rattle.lowered_answers.specs.Holding.{HoldsRows, answer_attributes, item_slot}
 use Rattle.answer_texts.specs.Texts.{text_of}
-use Rattle.answer_print.specs.Conditions.{AreItems, HoldsValues, IsOfKind, IsOfType}
+use Rattle.answer_print.specs.Conditions.{AreItems, HasPath, HoldsValues, IsOfKind, IsOfType}
 use Rattle.answer_print.specs.Held.{answer_in, columns_in, held_as, held_row, held_rows, held_text, item_column, item_columns, item_path, marked_in, marked_places, mark_path}
-use Rattle.held_answers.specs.Laws.{HasItems, PrintLaw, Prints}
+use Rattle.held_answers.specs.Laws.{PrintLaw, Prints}
 use Rattle.held_answers.specs.Shown.{is_shown}
 use Rattle.held_answers.proofs.Answers.{IsRow, rows_are}
 use Rattle.held_answers.proofs.Decoded.{decoded}
@@ -167,17 +167,17 @@ module _ (fit : ColumnsFit) (kinds : KindLaw) (defs : List TableDef) (ts : List 
 
   -- ---- the results
 
-  pub printed : (named : Named) → HoldsRows texts (length q.items) rows named → HasItems (length q.items) named → Prints texts q rows named
+  pub printed : (named : Named) → HoldsRows texts (length q.items) rows named → Prints texts q rows named
   unfolding held_text
-  printed named h has =
+  printed named h =
       let is : answer_in named ≡ h.vector = ap answer_in h.one in
       record {
         printable = record {
           one = ap (map (λ e. e.0)) h.one;
           items = items_are;
           held = record {
-            items = has.items;
-            mark = has.mark;
+            items = subst (λ (v : Vector). (k : ℕ) → k < length q.items → HasPath v (item_path (k + 1))) (sym is) h.paths;
+            mark = subst (λ (v : Vector). HasPath v mark_path) (sym is) h.mark_is;
             first = subst (λ (v : Vector). marked_in v ≡ range_with_len 0 (length (marked_in v))) (sym is) (first h.vector h.fit h.holds);
             values = subst (λ (v : Vector). All (HoldsValues (length (marked_in v))) (columns_in q v)) (sym is) (values_hold h.vector h.fit h.holds);
           };
@@ -191,5 +191,5 @@ dictionary_is defs ts = refl
 
 pub print_law : ColumnsFit → TypedLaw → ColumnLaw → KindLaw → WrittenLaw → PrintLaw
 print_law fit typing columns kinds writes bytes defs ts query q rows named read scales typed loaded answered =
-    subst (λ (d : List (List ℕ)). HoldsRows d (length q.items) rows named → HasItems (length q.items) named → Prints d q rows named) (dictionary_is defs ts)
+    subst (λ (d : List (List ℕ)). HoldsRows d (length q.items) rows named → Prints d q rows named) (dictionary_is defs ts)
     (printed fit kinds defs ts loaded q (typing query defs q typed) (columns query defs q typed) (writes bytes defs query q read scales typed) rows answered named)

@@ -22,7 +22,7 @@ use Rattle.writer_runs.specs.Runs.{Delivers}
 use Rattle.writer_runs.specs.Uses.{ShowsNothing}
 use Rattle.plan_lower.specs.Lowered.{program, lowered}
 use Rattle.lowered_stages.specs.Plans.{CanLower}
-use Rattle.lowered_items.specs.Items.{HoldLaw}
+use Rattle.lowered_items.specs.Items.{HoldLaw, PathLaw}
 use Rattle.lowered_premises.specs.Laws.{SourceLaw}
 use Rattle.lowered_answers.specs.Holding.{HoldsRows}
 use Rattle.lowered_answers.specs.Laws.{PassesCheck, CheckLaw, HoldsAnswer, AnswerLaw}
@@ -45,6 +45,7 @@ pub record AllLaws : Type 1 where
   pub results : ResultLaws
   pub meanings : MeaningLaws
   pub holding : HoldLaw
+  pub paths : PathLaw
 
 shows_nothing : AllLaws → (g : Given) → ShowsNothing (body g.select (texts g) g.defs g.plan 0).statements
 shows_nothing a g =
@@ -65,8 +66,9 @@ means a g (Ok rows) made =
     let p = body_passes a.runs a.premises a.passes a.places g in
     let known = a.meanings.outline (store g) w.statements at_start p.after nothing made.after (no_limit 1 p.after.shape (p.small (all_none (λ o. o.len ≤ 2 ^ 22)))) refl p.passes made.ran in
     let h = a.holding (texts g) (length g.plan.items) rows v made.after p.after.vectors w.told p.holds.0 made.holds.1.1 made.holds.1.0 (ap (λ (f : Shapes). f w.told) known) p.holds.1 in
+    let there = a.paths (length g.plan.items) v made.after p.after.vectors w.told p.holds.0 made.holds.1.0 (ap (λ (f : Shapes). f w.told) known) p.holds.1 in
     subst (HoldsAnswer (texts g) (length g.plan.items) (Ok rows)) (sym (a.results.shows (store g) w.statements [] (codes "answer") w.told made.after v (shows_nothing a g) (body_used a.uses g) made.ran made.holds.1.0))
-    (record { vector = v; one = refl; fit = h.fit; holds = h.holds; alone = h.alone })
+    (record { vector = v; one = refl; fit = h.fit; holds = h.holds; paths = there.items; mark_is = there.mark_is; alone = h.alone })
 
 ended_is : (g : Given) → lowered g.select (database_of g.defs g.ts) g.plan ≡ ended g
 unfolding lowered database_of

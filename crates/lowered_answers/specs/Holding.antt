@@ -1,13 +1,12 @@
 -- When the results of a program hold rows: there is one result, `answer`, whose first places are marked and hold the rows in order.
 -- A number stands as itself, a date as its day, a text as its code in the dictionary, and a null as an empty slot.
-use Rattle.std.specs.Prelude.{◌≡◌, ℕ, ◌+◌, ◌-◌, ◌≤◌, List, [], ◌∷◌, map, length, codes}
+use Rattle.std.specs.Prelude.{◌≡◌, ℕ, ◌+◌, ◌-◌, ◌<◌, ◌≤◌, true, List, [], ◌∷◌, map, length, codes, is_some}
 use Rattle.std.specs.List.{range_with_len}
 use Rattle.std.specs.Map.{lookup}
+use Rattle.std.specs.Str.{bytes_eq}
 use Rattle.control_vectors.specs.Slots.{Slot}
 use Rattle.programs.specs.Mentions.{Label}
-use Rattle.programs.specs.Outlines.{outline_of}
 use Rattle.programs.specs.Vectors.{Vector, Named}
-use Rattle.programs.specs.Orders.{Rises}
 use Rattle.query_answers.specs.Answers.{Row}
 use Rattle.table_load.specs.Databases.{coded}
 use Rattle.table_load.specs.Values.{value_at}
@@ -28,5 +27,8 @@ pub record HoldsRows (texts : List (List ℕ)) (items : ℕ) (rows : List Row) (
   pub one : named ≡ (codes "answer", vector) ∷ []
   pub fit : length rows ≤ vector.len
   pub holds : Holds vector (packed vector.len rows) (answer_attributes texts items)
-  -- it has no other attribute
+  -- it has these attributes even where it has no place
+  pub paths : (k : ℕ) → k < items → is_some (lookup (bytes_eq (item_path (k + 1))) vector.attributes) ≡ true
+  pub mark_is : is_some (lookup (bytes_eq mark) vector.attributes) ≡ true
+  -- and no other
   pub alone : length vector.attributes ≡ items + 1
