@@ -1,5 +1,5 @@
 -- Each row of a query's answer has a value for each item, one that can be shown.
-use Rattle.std.proofs.Common.{◌≡◌, ◌∙◌, ℕ, Bool, true, false, cond, List, [], ◌∷◌, length, map, get_or, Option, Some, Ok, refl, sym, ap, subst, ⊎_elim}
+use Rattle.std.proofs.Common.{◌≡◌, ◌∙◌, ℕ, Bool, true, false, cond, List, [], ◌∷◌, length, map, get_or, Option, Some, Ok, refl, sym, subst, ⊎_elim}
 use Rattle.std.specs.Prelude.{All, filter, slice_get}
 use Rattle.std.specs.List.{Contains}
 use Rattle.std.specs.Option.{ForSome}
@@ -61,9 +61,6 @@ kept_from {A} c xs left e x m =
 
 at_place : {X : Type 0} (P : X → Type 0) (xs : List X) (n : ℕ) (x : X) → All P xs → slice_get xs n ≡ Some x → P x
 at_place P xs n x h e = subst P (get_or_from_slice_get xs n x x e) (h n x (slice_get_within xs n x e))
-
-items_same : (a b : OutputRow) → a ≡ b → a.items ≡ b.items
-items_same a b e = ap (λ (r : OutputRow). r.items) e
 
 module _ (fit : ColumnsFit) (kinds : KindLaw) (defs : List TableDef) (ts : List Table) (loaded : AreLoaded defs ts) (q : TypedQuery) (typed : IsTyped q) (names : IsOfCatalog defs q) (written : IsWritten q) where
   abbrev texts : List (List ℕ)
@@ -164,6 +161,19 @@ module _ (fit : ColumnsFit) (kinds : KindLaw) (defs : List TableDef) (ts : List 
         subst (λ (u : DataType). is_shown texts u.kind (value_at k items) ≡ true) (some_same s.type t (sym s.is ∙ type)) one;
   }
 
+  -- the items of an output row
+  output_is : (on : On) (o : OutputRow) → IsPlace on → output_row (clauses_of q) on ≡ Ok o → IsRow o.items
+  output_is on o place e =
+      let x = both_ok (each (value on) q.items) (λ items. Ok (record { on = on; items = items })) o e in
+      subst (λ (r : OutputRow). IsRow r.items) (ok_same (record { on = on; items = x.0 }) o x.2) (items_row on x.0 place x.1)
+
+  -- those of output rows in order
+  ordered_are : (ps : List On) (outputs : List OutputRow) → ((on : On) → Contains ps on → IsPlace on) → each (output_row (clauses_of q)) ps ≡ Ok outputs → (row : Row) → Contains (map (λ (o : OutputRow). o.items) (in_order q.order outputs)) row → IsRow row
+  ordered_are ps outputs places e row m =
+      let o = mapped_from (λ (o : OutputRow). o.items) (in_order q.order outputs) row m in
+      let made = made_of (output_row (clauses_of q)) ps outputs e o.0 (sorted_within (comes_before q.order) o.0 outputs o.1) in
+      subst IsRow o.2 (output_is made.0 o.0 (places made.0 made.1) made.2)
+
   pub rows_are : (rows : List Row) → query_answer ts q ≡ Ok rows → (row : Row) → Contains rows row → IsRow row
   unfolding answer
   rows_are rows e row m =
@@ -171,10 +181,5 @@ module _ (fit : ColumnsFit) (kinds : KindLaw) (defs : List TableDef) (ts : List 
       let x = both_ok (kept_rows ts c) _ rows e in
       let y = both_ok (selected c c.grouped x.0) _ rows x.2 in
       let z = both_ok (each (output_row c) y.0) (λ outputs. Ok (map (λ (o : OutputRow). o.items) (in_order c.order outputs))) rows y.2 in
-      let o = mapped_from (λ (o : OutputRow). o.items) (in_order c.order z.0) row (subst (λ (l : List Row). Contains l row) (sym (ok_same (map (λ (o : OutputRow). o.items) (in_order c.order z.0)) rows z.2)) m) in
-      let made = made_of (output_row c) y.0 z.0 z.1 o.0 (sorted_within (comes_before c.order) o.0 z.0 o.1) in
-      let place = selected_place c.grouped x.0 y.0 refl (kept_from (λ r. condition q.filter (on_row r)) (from_rows ts q.sources) x.0 x.1) y.1 made.0 made.1 in
-      let items = both_ok (each (value made.0) q.items) (λ items. Ok (record { on = made.0; items = items })) o.0 made.2 in
-      let output : OutputRow = record { on = made.0; items = items.0 } in
-      let same : items.0 ≡ row = items_same output o.0 (ok_same output o.0 items.2) ∙ o.2 in
-      subst IsRow same (items_row made.0 items.0 place items.1)
+      let places = selected_place c.grouped x.0 y.0 refl (kept_from (λ r. condition q.filter (on_row r)) (from_rows ts q.sources) x.0 x.1) y.1 in
+      ordered_are y.0 z.0 places z.1 row (subst (λ (l : List Row). Contains l row) (sym (ok_same (map (λ (o : OutputRow). o.items) (in_order c.order z.0)) rows z.2)) m)
