@@ -1,18 +1,17 @@
 -- The attributes of a vector that a run made, by the paths that a check knows.
-use Rattle.std.proofs.Common.{◌≡◌, ◌∙◌, ℕ, ◌+◌, Bool, true, false, cond, ◌||◌, List, [], ◌∷◌, map, Option, Some, is_some, refl, sym, ap, subst, ⊎_elim}
+use Rattle.std.proofs.Common.{◌≡◌, ◌∙◌, ◌+◌, Bool, true, false, cond, List, [], ◌∷◌, map, Option, Some, is_some, refl, sym, ap, subst, ⊎_elim}
 use Rattle.std.specs.Map.{lookup}
 use Rattle.std.specs.Option.{option_map}
 use Rattle.std.specs.Str.{bytes_eq}
 use Rattle.std.proofs.lemmas.Bool.{false≢true, or_cases}
 use Rattle.std.proofs.lemmas.List.Elements.{All-head}
 use Rattle.std.proofs.lemmas.Slice.Eq.{bytes_eq-Decides}
-use Rattle.control_vectors.specs.Slots.{Slot}
 use Rattle.programs.specs.Mentions.{Label, has_name}
 use Rattle.programs.specs.Outlines.{Outline, outline_of, outlines}
 use Rattle.programs.specs.Vectors.{Attribute, Vector}
 use Rattle.program_writers.specs.Statements.{mark}
 use Rattle.plan_lower.specs.Items.{item_path}
-use Rattle.lowered_items.specs.Items.{HasItemPaths, PathLaw}
+use Rattle.lowered_items.specs.Items.{PathLaw}
 
 same_name : (p q : Label) → bytes_eq q p ≡ true → bytes_eq p q ≡ true
 same_name p q h = (bytes_eq-Decides p q).1 (sym ((bytes_eq-Decides q p).0 h))
