@@ -22,6 +22,7 @@ use Rattle.lowered_group_checks.proofs.GroupsUsed.{groups_used}
 use Rattle.lowered_group_checks.proofs.WholePass.{groups_pass}
 use Rattle.lowered_groups.proofs.GroupsMade.{groups_run}
 use Rattle.lowered_items.proofs.Alone.{hold_law}
+use Rattle.lowered_items.proofs.Attributes.{path_law}
 use Rattle.lowered_items.proofs.ItemsPass.{all_items_pass}
 use Rattle.lowered_items.proofs.ItemsRun.{items_run}
 use Rattle.lowered_items.proofs.ItemsUsed.{items_use}
@@ -82,6 +83,7 @@ all_laws g = record {
   results = result_laws;
   meanings = meaning_laws;
   holding = hold_law;
+  paths = path_law;
 }
 
 pub answer_law : Given → AnswerLaw

@@ -3,7 +3,7 @@ pub mod ItemsUsed
 pub mod Parts
 pub mod Delivering
 pub mod Alone
-mod Attributes
+pub mod Attributes
 pub mod Lists
 pub mod Holding
 pub mod Paths
