@@ -1,12 +1,11 @@
 -- The rows of one table are from-rows, one by one: what stands at a base as rows of the table stands there as from-rows.
-use Rattle.std.proofs.Common.{◌≡◌, ℕ, List, [], ◌∷◌, ◌++◌, map, length, refl, sym, ap, ◌∙◌, subst, Option, Some, None}
+use Rattle.std.proofs.Common.{◌≡◌, ℕ, List, [], ◌∷◌, ◌++◌, map, refl, sym, ap, ◌∙◌, subst, Option, Some, None}
 use Rattle.std.specs.Option.{option_map}
 use Rattle.std.specs.List.{All}
 use Rattle.std.proofs.lemmas.List.{length-map}
 use Rattle.lowered_answers.proofs.Lists.{all_none, all_more, all_head, all_tail}
 use Rattle.control_vectors.specs.Slots.{Slot}
 use Rattle.programs.specs.Vectors.{Vector, Env, slots_of}
-use Rattle.sql_values.specs.Values.{Value}
 use Rattle.table_load.specs.Databases.{coded}
 use Rattle.table_load.specs.Values.{value_at}
 use Rattle.std.specs.Prelude.{slice_index_or}
@@ -17,7 +16,7 @@ use Rattle.program_writers.specs.Statements.{mark}
 use Rattle.expr_steps.specs.Lowered.{Bytes}
 use Rattle.held_rows.specs.Held.{Held, Told, Holds, at, column, present, one}
 use Rattle.plan_lower.specs.Sites.{Base}
-use Rattle.lowered_stages.specs.Stages.{column_told, aggregate_told, told_of, StandsAt, Stands}
+use Rattle.lowered_stages.specs.Stages.{column_told, aggregate_told, told_of, Stands}
 use Rattle.lowered_stages.specs.Parts.{on_table}
 use Rattle.lowered_premises.specs.Sources.{alone}
 

@@ -1,5 +1,4 @@
 -- The laws of a plan's program, from those of its parts.
-use Rattle.typed_values.specs.Values.{On}
 use Rattle.value_laws.specs.Laws.{KindLaw}
 use Rattle.expr_counts.specs.Counts.{CountLaw, NodeLaw}
 use Rattle.expr_values.specs.Laws.{ValueLaw, BlankLaw, KnownLaw}

@@ -1,5 +1,5 @@
 -- A plan's program without its result: the parts before it tell the vector that the result shows.
-use Rattle.std.proofs.Common.{◌≡◌, ℕ, Bool, true, false, List, [], ◌∷◌, ◌++◌, refl, sym, ap, ◌∙◌, append_assoc}
+use Rattle.std.proofs.Common.{◌≡◌, List, [], ◌∷◌, ◌++◌, refl, sym, ap, ◌∙◌, append_assoc}
 use Rattle.std.specs.Prelude.{codes}
 use Rattle.control_vectors.specs.Controls.{Control}
 use Rattle.programs.specs.declared.op.Op.TheVariants as op

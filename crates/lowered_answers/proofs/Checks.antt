@@ -1,13 +1,12 @@
 -- A plan's program passes its check, and makes no vector of more than 2^22 places: its parts one behind another, and the result at its end.
 use Rattle.std.proofs.lemmas.Bool.{le-ltb}
-use Rattle.std.proofs.Common.{◌≡◌, ℕ, ◌+◌, ◌≤◌, ◌^◌, Bool, true, false, ◌||◌, List, [], ◌∷◌, ◌++◌, length, nat_lt, refl, sym, ap, ◌∙◌, subst, option_to_list, option_map, if◌then◌else◌, Option, Some, None, Result, Ok, Err, ◌==◌, arith}
+use Rattle.std.proofs.Common.{◌≡◌, ℕ, ◌≤◌, ◌^◌, Bool, true, false, ◌||◌, List, [], ◌∷◌, ◌++◌, length, refl, sym, ap, ◌∙◌, subst, option_to_list, if◌then◌else◌, Option, None, Ok, Err, ◌==◌, arith}
 use Rattle.std.specs.Prelude.{codes}
 use Rattle.std.specs.List.{All, list_any}
 use Rattle.lowered_answers.proofs.Lists.{all_none, all_more, all_head, all_tail}
-use Rattle.control_vectors.specs.Controls.{Control}
 use Rattle.programs.specs.declared.op.Op.TheVariants as op
 use Rattle.programs.specs.declared.op.Statement.{Statement}
-use Rattle.programs.specs.Check.{Known, Checked, then_check, check_from, check, at_start, names_result, shape_of, limit_from, limit_of, fault, with_result as known_with}
+use Rattle.programs.specs.Check.{Known, Checked, then_check, check_from, check, at_start, names_result, shape_of, limit_of, fault, with_result as known_with}
 use Rattle.programs.specs.declared.op.ProgramKind.TheVariants.{TooManyStatements}
 use Rattle.programs.specs.Mentions.{Label, is_persist}
 use Rattle.programs.specs.Outlines.{Outline, Shapes, no_outline, outlines}
@@ -24,21 +23,20 @@ use Rattle.expr_lower.specs.declared.places.AggregatePlace.{AggregatePlace}
 use Rattle.plan_laws.specs.PlanAnswers.{clauses_of_plan}
 use Rattle.lowered_group_checks.specs.Laws.{GroupsPass}
 use Rattle.lowered_premises.specs.Laws.{HaveValues}
-use Rattle.rel_plan.specs.declared.plans.RelPlan.{RelPlan}
 use Rattle.program_writers.specs.Statements.{mark}
-use Rattle.program_writers.specs.Writers.{Writer, tell, ◌>>=◌, statement}
-use Rattle.writer_checks.specs.Checks.{AreSmall, IsFresh, HasShape, Passes, PassesFrom}
+use Rattle.program_writers.specs.Writers.{Writer, statement}
+use Rattle.writer_checks.specs.Checks.{AreSmall, IsFresh, Passes}
 use Rattle.writer_checks.proofs.Composing.{tell_passes, behind_passes}
 use Rattle.writer_checks.proofs.Going.{shown, weaker}
 use Rattle.writer_runs.specs.Laws.{with_result}
 use Rattle.plan_lower.specs.Sites.{Base}
-use Rattle.plan_lower.specs.Rows.{rows_of, kept}
+use Rattle.plan_lower.specs.Rows.{kept}
 use Rattle.plan_lower.specs.Groups.{grouped}
 use Rattle.plan_lower.specs.Lowered.{defined_rows, table_rows, from_rows, stands_on}
 use Rattle.lowered_stages.specs.Stages.{IsShaped}
 use Rattle.lowered_stages.specs.Parts.{CanValue, RowsPasses, KeptPasses, GroupedPlaces, HasColumnsOf, IsKeyOf, SamePlaces}
 use Rattle.lowered_items.specs.Items.{IsAlone, ItemsAlone}
-use Rattle.lowered_premises.specs.Sources.{OverTable, HasGroupPlaces}
+use Rattle.lowered_premises.specs.Sources.{HasGroupPlaces}
 use Rattle.lowered_answers.proofs.Bodies.{items_on, behind_where, behind_rows, body}
 use Rattle.lowered_answers.proofs.Outlined.{no_limit}
 use Rattle.lowered_answers.proofs.Runs.{RunLaws, Given, Premises, texts, few_columns, few_rows, has_same, table_made}
@@ -187,6 +185,6 @@ passes_check runs h laws static g few =
     let p = body_passes runs h laws static g in
     let last = known_with p.after (codes "answer") in
     let ran : check_from (stored g) all at_start ≡ Ok last =
-        check_from-append (stored g) w.statements (statement (codes "answer") (op.Persist w.told) ∷ []) at_start ∙ ap (λ (r : Checked). then_check r (check_from (stored g) (statement (codes "answer") (op.Persist w.told) ∷ []))) p.passes
-        ∙ shown (stored g) p.after (codes "answer") w.told p.holds.0 (mark ∷ []) p.holds.1.shape (ap (λ (f : Label → Bool). f (codes "answer")) p.results) in
+    check_from-append (stored g) w.statements (statement (codes "answer") (op.Persist w.told) ∷ []) at_start ∙ ap (λ (r : Checked). then_check r (check_from (stored g) (statement (codes "answer") (op.Persist w.told) ∷ []))) p.passes
+    ∙ shown (stored g) p.after (codes "answer") w.told p.holds.0 (mark ∷ []) p.holds.1.shape (ap (λ (f : Label → Bool). f (codes "answer")) p.results) in
     (last.shape, (short_check (stored g) all few ∙ ap (shape_of (names_result all)) ran ∙ ap (λ (b : Bool). shape_of b (Ok last)) (names_one w.statements (codes "answer") w.told), no_limit 1 last.shape (one_more_small p.after.shape (p.small (all_none (λ o. o.len ≤ 2 ^ 22))))))

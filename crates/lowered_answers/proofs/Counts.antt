@@ -1,12 +1,11 @@
 -- How many statements a plan's program has: at most five for each node of its expressions, eleven for each aggregate, three for each group column, and some more.
-use Rattle.std.proofs.Common.{◌≡◌, ℕ, suc, ◌+◌, ◌-◌, ◌*◌, ◌≤◌, map, Bool, true, false, List, [], ◌∷◌, ◌++◌, length, refl, sym, ap, ◌∙◌, subst, length-append, option_to_list, Option, Some, None, arith}
-use Rattle.std.specs.List.{sum_by, enumerate_from, flat_map}
+use Rattle.std.proofs.Common.{◌≡◌, ℕ, suc, ◌+◌, ◌-◌, ◌*◌, ◌≤◌, map, List, [], ◌∷◌, length, refl, sym, ap, ◌∙◌, subst, length-append, Option, Some, None, arith}
+use Rattle.std.specs.List.{sum_by, enumerate_from}
 use Rattle.std.proofs.lemmas.List.Sums.{sum_by-cons}
 use Rattle.std.proofs.lemmas.List.FromFn.{length-enumerate_from}
 use Rattle.control_vectors.specs.Controls.{Control}
 use Rattle.programs.specs.declared.family.FoldOperator.{FoldOperator}
 use Rattle.programs.specs.declared.family.FoldOperator.TheVariants as fold
-use Rattle.programs.specs.declared.op.Statement.{Statement}
 use Rattle.programs.specs.Mentions.{Label}
 use Rattle.sql_read.specs.declared.definition.TableDef.{TableDef}
 use Rattle.typed_trees.specs.declared.typed.Aggregate.{Aggregate}
@@ -21,7 +20,7 @@ use Rattle.query_sizes.specs.Sizes.{nodes}
 use Rattle.expr_steps.specs.declared.steps.Step.{Step}
 use Rattle.expr_steps.specs.Lowered.{Bytes, steps_of}
 use Rattle.expr_counts.specs.Counts.{CountLaw}
-use Rattle.expr_lower.specs.Statements.{Site, site, statements_from, statements}
+use Rattle.expr_lower.specs.Statements.{Site, site, statements_from}
 use Rattle.std.specs.Prelude.{codes}
 use Rattle.control_vectors.specs.declared.PairKind.TheVariants as kinds
 use Rattle.programs.specs.declared.op.Op.TheVariants as op

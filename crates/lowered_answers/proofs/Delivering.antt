@@ -6,7 +6,7 @@ use Rattle.programs.specs.Vectors.{Env}
 use Rattle.program_writers.specs.Names.{IsBelow}
 use Rattle.program_writers.specs.Writers.{Writer, ◌>>=◌}
 use Rattle.query_answers.specs.Overs as overs
-use Rattle.writer_runs.specs.Runs.{Makes, Fails, Delivers}
+use Rattle.writer_runs.specs.Runs.{Makes, Delivers}
 use Rattle.writer_runs.proofs.Composed.{makes_bind, fails_first, fails_behind}
 
 -- what stands behind a part that makes what it tells

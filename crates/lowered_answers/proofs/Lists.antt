@@ -1,5 +1,5 @@
 -- What holds of each element of a list, element by element, and sums over lists.
-use Rattle.std.proofs.Common.{◌≡◌, ℕ, zero, suc, ◌+◌, ◌<◌, List, [], ◌∷◌, length, arith}
+use Rattle.std.proofs.Common.{zero, suc, List, [], ◌∷◌, arith}
 use Rattle.std.specs.List.{All}
 
 pub all_none : {X : Type 0} (P : X → Type 0) → All P []

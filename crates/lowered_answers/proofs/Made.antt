@@ -1,59 +1,42 @@
 -- What the parts of a plan's program make, one behind another: the rows of its answer, or they are Over where it is.
-use Rattle.std.proofs.Common.{◌≡◌, ℕ, ◌≤◌, ◌<◌, Bool, true, false, List, [], ◌∷◌, map, length, refl, sym, ap, ◌∙◌, subst, option_to_list, Option, Some, None, Result, Ok, Err, ◌^◌, ◌==◌, filter, not, zero, suc, arith}
+use Rattle.std.proofs.Common.{◌≡◌, ℕ, ◌≤◌, ◌<◌, Bool, true, false, List, [], ◌∷◌, map, length, refl, sym, ap, ◌∙◌, subst, option_to_list, Result, Ok, Err, ◌^◌, ◌==◌, arith}
 use Rattle.std.specs.List.{All, list_any}
-use Rattle.std.specs.Prelude.{slice_get}
-use Rattle.std.proofs.lemmas.List.{length-map}
-use Rattle.std.proofs.lemmas.List.Filters.{length-filter_both}
-use Rattle.sql_values.specs.Values.{Value}
 use Rattle.expr_lower.specs.declared.places.ColumnPlace.{ColumnPlace}
 use Rattle.expr_lower.specs.declared.places.AggregatePlace.{AggregatePlace}
 use Rattle.typed_trees.specs.Names.{same_column}
-use Rattle.control_vectors.specs.Controls.{Control}
 use Rattle.control_vectors.specs.declared.Over.{Over}
 use Rattle.programs.specs.Mentions.{Label, has_name}
-use Rattle.programs.specs.Vectors.{Vector, Env, nothing, tables}
-use Rattle.sql_read.specs.declared.definition.TableDef.{TableDef}
-use Rattle.table_load.specs.Databases.{database_of}
-use Rattle.table_load.specs.Values.{Table}
-use Rattle.typed_trees.specs.declared.typed.PlanSource.{PlanSource}
-use Rattle.typed_trees.specs.declared.typed.TypedExpr.{TypedExpr}
-use Rattle.typed_trees.specs.Typed.{IsCondition, IsSource}
-use Rattle.typed_trees.specs.Types.{DataType, no_aggregate, types_of}
-use Rattle.std.specs.Option.{ForSome}
-use Rattle.typed_values.specs.Values.{On, Valued}
-use Rattle.query_answers.specs.Answers.{Row, FromRow, OutputRow, condition, groups_of, meets, on_group, on_row, output_row}
+use Rattle.programs.specs.Vectors.{Vector, Env, nothing}
+use Rattle.typed_trees.specs.Types.{types_of}
+use Rattle.typed_values.specs.Values.{On}
+use Rattle.query_answers.specs.Answers.{Row, FromRow, OutputRow, condition, groups_of, on_group, on_row, output_row}
 use Rattle.query_answers.specs.Clauses.{Clauses}
 use Rattle.query_answers.specs.Overs.{each}
 use Rattle.query_answers.specs.Overs as overs
-use Rattle.rel_plan.specs.declared.plans.RelPlan.{RelPlan}
 use Rattle.plan_laws.specs.PlanAnswers.{clauses_of_plan, plan_answer}
-use Rattle.expr_steps.specs.Lowered.{Bytes}
 use Rattle.program_writers.specs.Names.{IsBelow}
-use Rattle.program_writers.specs.Writers.{Writer, tell, ◌>>=◌}
-use Rattle.writer_runs.specs.Runs.{Makes, Fails, Delivers, Sees}
-use Rattle.writer_runs.proofs.Composed.{makes_tell}
+use Rattle.program_writers.specs.Writers.{◌>>=◌}
+use Rattle.writer_runs.specs.Runs.{Makes, Delivers, Sees}
 use Rattle.plan_lower.specs.Sites.{Base}
-use Rattle.plan_lower.specs.Rows.{rows_of, kept}
+use Rattle.plan_lower.specs.Rows.{kept}
 use Rattle.plan_lower.specs.Groups.{grouped}
-use Rattle.plan_lower.specs.Lowered.{defined_rows, table_rows, source_rows, from_rows, stands_on}
+use Rattle.plan_lower.specs.Lowered.{from_rows, stands_on}
 use Rattle.lowered_stages.specs.Stages.{Stands}
-use Rattle.lowered_stages.specs.Parts.{CanValue, CanValueAll, on_table, itself, HasColumnsOf, IsKeyOf, key_alike, SamePlaces, RowsRuns, KeptRuns, answer_rows, ordered_items}
-use Rattle.lowered_items.specs.Items.{ShowsItems, ItemsMade}
-use Rattle.lowered_stages.specs.Plans.{CanLower}
-use Rattle.lowered_premises.specs.Sources.{OverTable, texts_of, alone, met_rows, IsRowOf, IsGroupOf, HasGroupPlaces}
-use Rattle.lowered_premises.specs.Laws.{HasItsColumns, ColumnLaw, TableLaw, StandOnRows, RowsLaw, StandOnGroups, GroupsLaw, MemberLaws, HaveValues, PlacesLaw, HaveGroupValues, GroupPlacesLaw, where_rows, having_groups, ShapeLaws}
-use Rattle.lowered_answers.proofs.Alone.{stands_alone}
-use Rattle.lowered_answers.proofs.Lists.{all_none, all_more, all_head, all_tail}
+use Rattle.lowered_stages.specs.Parts.{CanValue, CanValueAll, itself, IsKeyOf, key_alike, SamePlaces, answer_rows}
+use Rattle.lowered_items.specs.Items.{ShowsItems}
+use Rattle.lowered_premises.specs.Sources.{alone, met_rows, IsRowOf, IsGroupOf, HasGroupPlaces}
+use Rattle.lowered_premises.specs.Laws.{where_rows, having_groups}
+use Rattle.lowered_answers.proofs.Lists.{all_none, all_more}
 use Rattle.lowered_answers.proofs.Bodies.{items_on, behind_where, behind_rows, body}
 use Rattle.lowered_answers.proofs.Delivering.{Behind, makes_then, delivers_then, delivers_less, delivers_same}
 use Rattle.programs.specs.Check.{Known, at_start}
 use Rattle.programs.specs.Outlines.{Shapes, outlines}
 use Rattle.program_writers.specs.Statements.{mark}
 use Rattle.voodoo_ops.specs.Laws.{MeaningLaws}
-use Rattle.writer_checks.specs.Checks.{AreSmall, IsFresh, HasShape}
-use Rattle.lowered_stages.specs.Stages.{IsShaped, paths_of}
+use Rattle.writer_checks.specs.Checks.{IsFresh, HasShape}
+use Rattle.lowered_stages.specs.Stages.{IsShaped}
 use Rattle.lowered_answers.proofs.Outlined.{outlined}
-use Rattle.lowered_answers.proofs.Runs.{RunLaws, Premises, Given, texts, store, HoldsAt, RowsStand, having_conditions, from_made, all_rows, met_few, where_few, where_members, where_made, few_rows}
+use Rattle.lowered_answers.proofs.Runs.{RunLaws, Premises, Given, texts, store, HoldsAt, RowsStand, having_conditions, from_made, where_few, where_members, where_made}
 use Rattle.lowered_answers.proofs.Checks.{PassLaws, RowsShaped, from_passes, kept_passes, values_over}
 
 -- rows that stand, with what a check knows of their vector

@@ -1,5 +1,5 @@
 -- What a check knows of the vectors that a part makes.
-use Rattle.std.proofs.Common.{◌≡◌, ℕ, ◌+◌, ◌≤◌, ◌^◌, Bool, true, false, List, [], ◌∷◌, nat_lt, refl, sym, ap, ◌∙◌, subst, if◌then◌else◌, Option, Some, None, Result, Ok, Err}
+use Rattle.std.proofs.Common.{◌≡◌, ℕ, ◌+◌, ◌≤◌, ◌^◌, Bool, false, List, [], ◌∷◌, nat_lt, refl, sym, ap, ◌∙◌, subst, if◌then◌else◌, Some, None, Result, Ok, Err}
 use Rattle.std.proofs.lemmas.Bool.{le-ltb}
 use Rattle.control_vectors.specs.declared.Over.{Over}
 use Rattle.programs.specs.Check.{Known, limit_from}
@@ -8,7 +8,7 @@ use Rattle.programs.specs.Vectors.{Env}
 use Rattle.program_writers.specs.Writers.{Writer}
 use Rattle.voodoo_ops.specs.Laws.{MeaningLaws}
 use Rattle.writer_checks.specs.Checks.{AreSmall, IsFresh, Passes}
-use Rattle.writer_runs.specs.Runs.{Makes, Delivers}
+use Rattle.writer_runs.specs.Runs.{Delivers}
 use Rattle.lowered_answers.proofs.Lists.{all_head, all_tail}
 
 pub no_limit : (k : ℕ) (shape : List Outline) → AreSmall shape → limit_from k shape ≡ None

@@ -1,5 +1,5 @@
 -- Groups have a place for each of their columns, and one for each of their aggregates.
-use Rattle.std.proofs.Common.{◌≡◌, ◌≢◌, ◌∙◌, ℕ, ◌+◌, ◌<◌, Bool, true, false, ◌||◌, ◌&&◌, List, [], ◌∷◌, ◌++◌, length, refl, sym, ap, subst, arith}
+use Rattle.std.proofs.Common.{◌≡◌, ◌≢◌, ◌∙◌, ℕ, ◌+◌, ◌<◌, Bool, true, false, ◌&&◌, List, [], ◌∷◌, length, refl, sym, ap, subst, arith}
 use Rattle.std.specs.Prelude.{◌==◌}
 use Rattle.std.specs.List.{All, list_any, enumerate_from}
 use Rattle.std.proofs.lemmas.Bool.Decides.{nat_tests, Decides-eqb}
@@ -10,7 +10,7 @@ use Rattle.typed_trees.specs.declared.typed.ColumnRef.{ColumnRef}
 use Rattle.expr_steps.specs.Lowered.{Bytes}
 use Rattle.program_writers.specs.Writers.{through}
 use Rattle.plan_lower.specs.Sites.{Base, marked_alone, with_aggregate}
-use Rattle.plan_lower.specs.Groups.{Folding, aggregate_of, aggregate_path, folding, grouped, key_of, key_path, nought_at, run_groups, runs_of, sorted}
+use Rattle.plan_lower.specs.Groups.{Folding, aggregate_of, aggregate_path, folding, key_of, key_path, nought_at, run_groups, runs_of, sorted}
 use Rattle.lowered_stages.specs.Parts.{GroupedPlaces}
 use Rattle.lowered_groups.proofs.Bases.{with_last, still_any}
 use Rattle.lowered_answers.proofs.Lists.{all_none, all_more}
@@ -82,8 +82,7 @@ module _ (texts : List Bytes) (f : Folding) where
 
 pub grouped_places : GroupedPlaces
 grouped_places texts b columns aggregates k =
-    let f = folding b columns k in
-    (
+    let f = folding b columns k in (
       subst (λ (l : List _). All (λ g. list_any (λ p. same_column p.column g) l ≡ true) columns) (sym (still_columns texts f.told aggregates 0 f.told.groups f.next)) (folding_has b columns k),
       (λ m less. has_each texts f.told aggregates 0 f.told.groups f.next (λ n none. absurd (omega (arith, none))) m (omega (arith, less))),
     )

@@ -1,12 +1,11 @@
 -- What the parts of a plan's program make, one behind another: the rows of its answer, or they are Over where it is.
-use Rattle.std.proofs.Common.{◌≡◌, ℕ, ◌≤◌, ◌<◌, Bool, true, false, List, [], ◌∷◌, map, length, refl, sym, ap, ◌∙◌, subst, option_to_list, Option, Some, None, Result, Ok, Err, ◌^◌, ◌==◌, filter, not, zero, suc, arith}
+use Rattle.std.proofs.Common.{◌≡◌, ℕ, ◌≤◌, Bool, true, List, [], ◌∷◌, map, length, refl, sym, ◌∙◌, subst, option_to_list, Option, Some, None, Result, Ok, Err, ◌^◌, filter, not, zero, suc, arith}
 use Rattle.std.specs.List.{All, list_any}
 use Rattle.std.specs.Prelude.{slice_get}
 use Rattle.std.proofs.lemmas.List.{length-map}
 use Rattle.std.proofs.lemmas.List.Filters.{length-filter_both}
 use Rattle.sql_values.specs.Values.{Value}
 use Rattle.expr_lower.specs.declared.places.ColumnPlace.{ColumnPlace}
-use Rattle.expr_lower.specs.declared.places.AggregatePlace.{AggregatePlace}
 use Rattle.typed_trees.specs.Names.{same_column}
 use Rattle.control_vectors.specs.Controls.{Control}
 use Rattle.control_vectors.specs.declared.Over.{Over}
@@ -18,35 +17,29 @@ use Rattle.table_load.specs.Values.{Table}
 use Rattle.typed_trees.specs.declared.typed.PlanSource.{PlanSource}
 use Rattle.typed_trees.specs.declared.typed.TypedExpr.{TypedExpr}
 use Rattle.typed_trees.specs.Typed.{IsCondition, IsSource}
-use Rattle.typed_trees.specs.Types.{DataType, no_aggregate, types_of}
+use Rattle.typed_trees.specs.Types.{DataType, no_aggregate}
 use Rattle.std.specs.Option.{ForSome}
-use Rattle.typed_values.specs.Values.{On, Valued}
-use Rattle.query_answers.specs.Answers.{Row, FromRow, OutputRow, condition, groups_of, meets, on_group, on_row, output_row}
-use Rattle.query_answers.specs.Clauses.{Clauses}
+use Rattle.typed_values.specs.Values.{Valued}
+use Rattle.query_answers.specs.Answers.{Row, FromRow, condition, meets, on_row}
 use Rattle.query_answers.specs.Overs.{each}
 use Rattle.query_answers.specs.Overs as overs
 use Rattle.rel_plan.specs.declared.plans.RelPlan.{RelPlan}
-use Rattle.plan_laws.specs.PlanAnswers.{clauses_of_plan, plan_answer}
 use Rattle.expr_steps.specs.Lowered.{Bytes}
 use Rattle.program_writers.specs.Names.{IsBelow}
-use Rattle.program_writers.specs.Writers.{Writer, tell, ◌>>=◌}
-use Rattle.writer_runs.specs.Runs.{Makes, Fails, Delivers, Sees}
-use Rattle.writer_runs.proofs.Composed.{makes_tell}
+use Rattle.writer_runs.specs.Runs.{Makes, Delivers, Sees}
 use Rattle.plan_lower.specs.Sites.{Base}
-use Rattle.plan_lower.specs.Rows.{rows_of, kept}
-use Rattle.plan_lower.specs.Groups.{grouped}
-use Rattle.plan_lower.specs.Lowered.{defined_rows, table_rows, source_rows, from_rows, stands_on}
+use Rattle.plan_lower.specs.Rows.{kept}
+use Rattle.plan_lower.specs.Lowered.{defined_rows, table_rows, from_rows}
 use Rattle.lowered_stages.specs.Stages.{Stands}
-use Rattle.lowered_stages.specs.Parts.{CanValue, CanValueAll, on_table, itself, HasColumnsOf, IsKeyOf, key_alike, SamePlaces, RowsRuns, KeptRuns, answer_rows, ordered_items}
+use Rattle.lowered_stages.specs.Parts.{on_table, HasColumnsOf, SamePlaces, RowsRuns, KeptRuns}
 use Rattle.lowered_groups.specs.Laws.{GroupsRun}
 use Rattle.lowered_items.specs.Items.{ShowsItems, ItemsMade}
 use Rattle.lowered_stages.specs.Plans.{CanLower}
-use Rattle.lowered_premises.specs.Sources.{OverTable, texts_of, alone, met_rows, IsRowOf, IsGroupOf, HasGroupPlaces}
-use Rattle.lowered_premises.specs.Laws.{HasItsColumns, ColumnLaw, TableLaw, StandOnRows, RowsLaw, StandOnGroups, GroupsLaw, MemberLaws, HaveValues, PlacesLaw, HaveGroupValues, GroupPlacesLaw, where_rows, having_groups, ShapeLaws}
+use Rattle.lowered_premises.specs.Sources.{OverTable, texts_of, alone, met_rows, IsRowOf}
+use Rattle.lowered_premises.specs.Laws.{ColumnLaw, TableLaw, RowsLaw, GroupsLaw, MemberLaws, PlacesLaw, GroupPlacesLaw, where_rows, ShapeLaws}
 use Rattle.lowered_answers.proofs.Alone.{stands_alone}
 use Rattle.lowered_answers.proofs.Lists.{all_none, all_more, all_head, all_tail}
-use Rattle.lowered_answers.proofs.Bodies.{items_on, behind_where, behind_rows, body}
-use Rattle.lowered_answers.proofs.Delivering.{Behind, makes_then, delivers_then, delivers_less, delivers_same}
+use Rattle.lowered_answers.proofs.Delivering.{makes_then, delivers_same}
 
 -- the laws of the parts, and of what they are asked over
 pub record RunLaws : Type 1 where
@@ -130,7 +123,7 @@ source_kept laws h g b next between (stands, (below, (places, (first, none)))) =
     let asked = h.table g.defs g.ts g.plan g.source g.def g.table g.can g.over in
     let made = laws.kept_run Row g.select (texts g) no_aggregate on_table (length g.table.rows) g.table.rows b g.source.filter next (store g) between (source_conditions g) values asked below stands in
     let kept_so : Delivers (store g) (kept g.select (texts g) b g.source.filter) next between (Ok (met_rows g.source g.table)) (TableKept g b) =
-        subst (λ (r : Result (List Row) Over). Delivers (store g) (kept g.select (texts g) b g.source.filter) next between r (TableKept g b)) (h.shapes.kept_are g.defs g.ts g.plan g.source g.def g.table g.can g.over) made in
+    subst (λ (r : Result (List Row) Over). Delivers (store g) (kept g.select (texts g) b g.source.filter) next between r (TableKept g b)) (h.shapes.kept_are g.defs g.ts g.plan g.source g.def g.table g.can g.over) made in
     delivers_same (store g) (kept g.select (texts g) b g.source.filter) next between (Ok (met_rows g.source g.table)) (TableKept g b) (λ rows. RowsStand g (map alone rows)) so kept_so
   where
     so : (rows : List Row) (c : Base) (n : ℕ) (after : Env) → ◌≡◌ {A = Result (List Row) Over} (Ok (met_rows g.source g.table)) (Ok rows) → (TableKept g b) rows c n after → RowsStand g (map alone rows) c n after
@@ -196,4 +189,3 @@ where_made laws h g b next between (stands, (below, places)) =
   where
     so : (left : List FromRow) (c : Base) (n : ℕ) (after : Env) → where_rows g.plan g.source g.table ≡ Ok left → (RowsKept g b) left c n after → RowsStand g left c n after
     so left c n after e (stand, (name, same)) = (stand, (name, has_same 0 g.source.columns b c same places))
-

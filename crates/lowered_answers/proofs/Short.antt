@@ -1,11 +1,9 @@
 -- A plan's program has no more statements than a program may have.
-use Rattle.std.proofs.Common.{◌≡◌, ℕ, ◌+◌, ◌*◌, ◌≤◌, Bool, true, false, List, [], ◌∷◌, ◌++◌, length, refl, sym, ap, ◌∙◌, subst, length-append, option_to_list, Option, Some, None, arith}
+use Rattle.std.proofs.Common.{◌≡◌, ℕ, ◌+◌, ◌*◌, ◌≤◌, Bool, true, false, List, [], ◌∷◌, ◌++◌, length, sym, ap, subst, length-append, option_to_list, Option, Some, None, arith}
 use Rattle.std.specs.Prelude.{codes}
 use Rattle.std.specs.List.{sum_by, flat_map}
 use Rattle.std.proofs.lemmas.List.Sums.{sum_by-append, sum_by-cons}
 use Rattle.programs.specs.declared.op.Op.TheVariants as op
-use Rattle.programs.specs.declared.op.Statement.{Statement}
-use Rattle.programs.specs.Mentions.{Label}
 use Rattle.sql_read.specs.declared.definition.TableDef.{TableDef}
 use Rattle.typed_trees.specs.declared.typed.Aggregate.{Aggregate}
 use Rattle.typed_trees.specs.declared.typed.PlanSource.{PlanSource}
@@ -13,13 +11,13 @@ use Rattle.typed_trees.specs.declared.typed.TypedExpr.{TypedExpr}
 use Rattle.query_sizes.specs.Sizes.{nodes}
 use Rattle.rel_plan.specs.Plans.{arguments_of}
 use Rattle.expr_counts.specs.Counts.{NodeLaw, CountLaw}
-use Rattle.program_writers.specs.Writers.{Writer, ◌>>=◌, statement}
+use Rattle.program_writers.specs.Writers.{◌>>=◌, statement}
 use Rattle.writer_runs.specs.Laws.{with_result}
 use Rattle.plan_lower.specs.Sites.{Base}
 use Rattle.plan_lower.specs.Rows.{rows_of, kept}
 use Rattle.plan_lower.specs.Groups.{grouped}
 use Rattle.plan_lower.specs.Items.{items_of, in_order}
-use Rattle.plan_lower.specs.Lowered.{defined_rows, table_rows, from_rows, stands_on}
+use Rattle.plan_lower.specs.Lowered.{defined_rows, from_rows, stands_on}
 use Rattle.lowered_answers.proofs.Bodies.{items_on, behind_where, behind_rows, body}
 use Rattle.lowered_answers.proofs.Counts.{count, count_then, cost, argument_cost, aggregate_cost, rows_most, kept_most, grouped_most, items_most, order_most}
 use Rattle.lowered_answers.proofs.Runs.{Given, texts, few_columns}

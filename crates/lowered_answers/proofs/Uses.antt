@@ -1,25 +1,21 @@
 -- Each statement of a plan's program is used: its parts one behind another.
-use Rattle.std.proofs.Common.{suc, ap, arith, not, length, ◌==◌, ◌||◌, ◌≡◌, ℕ, Bool, true, false, List, [], ◌∷◌, refl, sym, subst, ◌∙◌, option_to_list, Option, Some, None}
+use Rattle.std.proofs.Common.{suc, ap, arith, not, length, ◌==◌, ◌||◌, ◌≡◌, ℕ, Bool, true, false, List, [], ◌∷◌, refl, sym, subst, ◌∙◌, option_to_list, Option, Some}
 use Rattle.std.proofs.lemmas.Bool.Decides.{nat_tests}
-use Rattle.control_vectors.specs.Controls.{Control}
 use Rattle.programs.specs.Mentions.{Label}
 use Rattle.sql_read.specs.declared.definition.TableDef.{TableDef}
 use Rattle.typed_trees.specs.declared.typed.PlanSource.{PlanSource}
 use Rattle.typed_trees.specs.declared.typed.Aggregate.{Aggregate}
 use Rattle.typed_trees.specs.declared.typed.ColumnRef.{ColumnRef}
 use Rattle.query_answers.specs.Clauses.{is_grouped}
-use Rattle.rel_plan.specs.declared.plans.RelPlan.{RelPlan}
-use Rattle.expr_steps.specs.Lowered.{Bytes}
-use Rattle.program_writers.specs.Writers.{Writer, tell, ◌>>=◌}
+use Rattle.program_writers.specs.Writers.{Writer, ◌>>=◌}
 use Rattle.writer_runs.specs.Laws.{UsedLaws}
 use Rattle.writer_runs.specs.Uses.{Uses}
 use Rattle.plan_lower.specs.Sites.{Base}
 use Rattle.plan_lower.specs.Rows.{kept}
 use Rattle.plan_lower.specs.Groups.{grouped}
-use Rattle.plan_lower.specs.Lowered.{defined_rows, table_rows, from_rows, stands_on}
+use Rattle.plan_lower.specs.Lowered.{defined_rows, from_rows, stands_on}
 use Rattle.lowered_stages.specs.Parts.{RowsUses, KeptUses, ItemsUses}
 use Rattle.lowered_group_checks.specs.Laws.{GroupsUsed}
-use Rattle.lowered_premises.specs.Sources.{OverTable}
 use Rattle.lowered_answers.proofs.Bodies.{items_on, behind_where, behind_rows, body}
 use Rattle.lowered_answers.proofs.Runs.{Given, texts}
 

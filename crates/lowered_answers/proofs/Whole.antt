@@ -1,13 +1,11 @@
 -- A plan's program means its answer, and passes its check.
-use Rattle.std.proofs.Common.{◌≡◌, ℕ, ◌≤◌, ◌^◌, List, [], ◌∷◌, length, refl, sym, ap, ◌∙◌, subst, Result, Ok, Err}
+use Rattle.std.proofs.Common.{◌≡◌, ◌≤◌, ◌^◌, List, [], length, refl, sym, ap, ◌∙◌, subst, Result, Ok, Err}
 use Rattle.std.specs.Prelude.{codes}
 use Rattle.control_vectors.specs.Controls.{Control}
-use Rattle.control_vectors.specs.Slots.{over}
 use Rattle.control_vectors.specs.declared.Over.{Over}
-use Rattle.programs.specs.Check.{check, limit_of, at_start}
-use Rattle.programs.specs.Mentions.{Label}
+use Rattle.programs.specs.Check.{check, at_start}
 use Rattle.programs.specs.Outlines.{Shapes, outlines}
-use Rattle.programs.specs.Vectors.{Vector, Env, Named, nothing, tables}
+use Rattle.programs.specs.Vectors.{nothing}
 use Rattle.programs.specs.declared.op.Statement.{Statement}
 use Rattle.sql_read.specs.declared.definition.TableDef.{TableDef}
 use Rattle.table_load.specs.Databases.{database_of}
@@ -20,12 +18,11 @@ use Rattle.plan_laws.specs.PlanAnswers.{plan_answer}
 use Rattle.writer_runs.specs.Laws.{with_result, StandLaws, ResultLaws}
 use Rattle.writer_runs.specs.Runs.{Delivers}
 use Rattle.writer_runs.specs.Uses.{ShowsNothing}
-use Rattle.plan_lower.specs.Lowered.{program, lowered}
+use Rattle.plan_lower.specs.Lowered.{lowered}
 use Rattle.lowered_stages.specs.Plans.{CanLower}
 use Rattle.lowered_items.specs.Items.{HoldLaw, PathLaw}
 use Rattle.lowered_premises.specs.Laws.{SourceLaw}
-use Rattle.lowered_answers.specs.Holding.{HoldsRows}
-use Rattle.lowered_answers.specs.Laws.{PassesCheck, CheckLaw, HoldsAnswer, AnswerLaw}
+use Rattle.lowered_answers.specs.Laws.{CheckLaw, HoldsAnswer, AnswerLaw}
 use Rattle.lowered_answers.proofs.Bodies.{body, program_is}
 use Rattle.lowered_answers.proofs.Outlined.{no_limit}
 use Rattle.lowered_answers.proofs.Runs.{RunLaws, Premises, Given, texts, store, HoldsAt}

@@ -5,7 +5,6 @@ use Rattle.std.specs.List.{range_with_len}
 use Rattle.std.specs.Map.{lookup}
 use Rattle.std.specs.Str.{bytes_eq}
 use Rattle.control_vectors.specs.Slots.{Slot}
-use Rattle.programs.specs.Mentions.{Label}
 use Rattle.programs.specs.Vectors.{Vector, Named}
 use Rattle.query_answers.specs.Answers.{Row}
 use Rattle.table_load.specs.Databases.{coded}

@@ -1,8 +1,7 @@
 -- The program of a plan over one table holds the plan's answer.
 -- After SQL-92 (ISO/IEC 9075:1992), 7.3 <table expression> to 7.9 <query specification>.
-use Rattle.std.specs.Prelude.{◌≡◌, ℕ, ◌≤◌, List, [], ◌∷◌, All, length, sum_by, Option, None, Result, Ok, Err}
+use Rattle.std.specs.Prelude.{◌≡◌, ℕ, List, length, None, Result, Ok, Err}
 use Rattle.control_vectors.specs.Controls.{Control}
-use Rattle.control_vectors.specs.Slots.{over}
 use Rattle.control_vectors.specs.declared.Over.{Over}
 use Rattle.sql_read.specs.declared.definition.TableDef.{TableDef}
 use Rattle.table_load.specs.Databases.{DatabaseValue, database_of}
