@@ -19,7 +19,11 @@ fn out_path(alloc: Global) -> Result<Path, NoMemory>
 }
 
 /// The path of a column.
-pub fn column_path(alloc: Global, columns: &[ColumnPlace], column: ColumnRef) -> Result<Path, NoMemory>
+pub fn column_path(
+    alloc: Global,
+    columns: &[ColumnPlace],
+    column: ColumnRef,
+) -> Result<Path, NoMemory>
     ensures { IfOk result (λ p. p ≡ spec.column_path columns.now column) }
 {
     for place in columns {

@@ -159,7 +159,7 @@ GroupedRuns =
     (texts : List Bytes) (q : Clauses) (len : ℕ) (rows : List FromRow) (b : Base) (k : ℕ) (store env : Env)
     → CanGroup b q.groups q.aggregates → CanGroupRows texts q.groups q.aggregates rows → IsBelow k b.vector → Stands texts b on_row len rows env
     → Delivers store (grouped texts b q.groups q.aggregates) k env (each (on_group q) (groups_of q.groups rows))
-        (λ groups c next after. (count : ℕ) × (Stands texts c itself count groups after × (IsBelow next c.vector × (All (λ g. list_any (λ p. same_column p.column g) c.columns ≡ true) q.groups × ((n : ℕ) → n < length q.aggregates → list_any (λ p. p.aggregate == n) c.aggregates ≡ true)))))
+    (λ groups c next after. (count : ℕ) × (Stands texts c itself count groups after × (IsBelow next c.vector × (All (λ g. list_any (λ p. same_column p.column g) c.columns ≡ true) q.groups × ((n : ℕ) → n < length q.aggregates → list_any (λ p. p.aggregate == n) c.aggregates ≡ true)))))
 
 -- the groups' vector is as long as the rows', or has one place
 abbrev pub GroupedPasses : Type 0
@@ -207,7 +207,7 @@ ItemsRuns =
     → All (CanValue at b) q.items → All (CanValueAll texts at on rows) q.items → length q.items ≤ 64 → length q.order ≤ 8 → All (λ key. IsKeyOf (length q.items) b key.key) q.order → All (λ key. key_alike texts on rows key.key) q.order
     → IsBelow k b.vector → Stands texts b on len rows env
     → Delivers store (ordered_items texts b q.items q.order) k env (each (λ a. output_row q (on a)) rows)
-        (λ outputs name next after. (v : Vector) × (Sees after name v × (HoldsItems texts (length q.items) (answer_rows q outputs) v × IsBelow next name)))
+    (λ outputs name next after. (v : Vector) × (Sees after name v × (HoldsItems texts (length q.items) (answer_rows q outputs) v × IsBelow next name)))
 
 abbrev pub ItemsPasses : Type 0
 ItemsPasses =
