@@ -11,6 +11,8 @@ use key_paths::Path;
 use std::alloc::Global;
 
 /// What an operator makes.
+// The proof is named here: a folder of proofs named `out` would pass for build output.
+#[tactic(auto, using(crate::proofs::Routes::path_out))]
 pub fn out(alloc: Global) -> Result<Path, NoMemory>
     ensures { IfOk result (λ p. p ≡ spec.out) }
 {
