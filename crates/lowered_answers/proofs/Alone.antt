@@ -15,7 +15,7 @@ use Rattle.expr_lower.specs.declared.places.ColumnPlace.{ColumnPlace}
 use Rattle.program_writers.specs.Statements.{mark}
 use Rattle.expr_steps.specs.Lowered.{Bytes}
 use Rattle.held_rows.specs.Held.{Held, Told, Holds, at, column, present, one}
-use Rattle.plan_lower.specs.Sites.{Base}
+use Rattle.plan_programs.specs.Sites.{Base}
 use Rattle.lowered_stages.specs.Stages.{column_told, aggregate_told, told_of, Stands}
 use Rattle.lowered_stages.specs.Parts.{on_table}
 use Rattle.lowered_premises.specs.Sources.{alone}

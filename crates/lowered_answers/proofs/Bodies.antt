@@ -10,10 +10,10 @@ use Rattle.expr_steps.specs.Lowered.{Bytes}
 use Rattle.rel_plan.specs.declared.plans.RelPlan.{RelPlan}
 use Rattle.program_writers.specs.Writers.{Writer, ◌>>=◌, statement}
 use Rattle.writer_runs.specs.Laws.{with_result}
-use Rattle.plan_lower.specs.Sites.{Base}
-use Rattle.plan_lower.specs.Rows.{kept}
-use Rattle.plan_lower.specs.Items.{items_of, in_order}
-use Rattle.plan_lower.specs.Lowered.{from_rows, stands_on, program}
+use Rattle.plan_programs.specs.Sites.{Base}
+use Rattle.plan_programs.specs.Rows.{kept}
+use Rattle.plan_programs.specs.Items.{items_of, in_order}
+use Rattle.plan_programs.specs.Lowered.{from_rows, stands_on, program}
 use Rattle.lowered_stages.specs.Parts.{ordered_items}
 
 abbrev pub items_on : List Bytes → RelPlan → Base → Writer Label

@@ -29,10 +29,10 @@ use Rattle.writer_checks.specs.Checks.{AreSmall, IsFresh, Passes}
 use Rattle.writer_checks.proofs.Composing.{tell_passes, behind_passes}
 use Rattle.writer_checks.proofs.Going.{shown, weaker}
 use Rattle.writer_runs.specs.Laws.{with_result}
-use Rattle.plan_lower.specs.Sites.{Base}
-use Rattle.plan_lower.specs.Rows.{kept}
-use Rattle.plan_lower.specs.Groups.{grouped}
-use Rattle.plan_lower.specs.Lowered.{defined_rows, table_rows, from_rows, stands_on}
+use Rattle.plan_programs.specs.Sites.{Base}
+use Rattle.plan_programs.specs.Rows.{kept}
+use Rattle.plan_programs.specs.Groups.{grouped}
+use Rattle.plan_programs.specs.Lowered.{defined_rows, table_rows, from_rows, stands_on}
 use Rattle.lowered_stages.specs.Stages.{IsShaped}
 use Rattle.lowered_stages.specs.Parts.{CanValue, RowsPasses, KeptPasses, GroupedPlaces, HasColumnsOf, IsKeyOf, SamePlaces}
 use Rattle.lowered_items.specs.Items.{IsAlone, ItemsAlone}

@@ -26,11 +26,11 @@ use Rattle.control_vectors.specs.declared.PairKind.TheVariants as kinds
 use Rattle.programs.specs.declared.op.Op.TheVariants as op
 use Rattle.program_writers.specs.Statements.{mark, out, attribute, pair, with_attribute, at_places}
 use Rattle.program_writers.specs.Writers.{Writer, tell, ◌>>=◌, through, make, numbered}
-use Rattle.plan_lower.specs.Sites.{Base, marked_alone, with_aggregate, value_of}
-use Rattle.plan_lower.specs.Rows.{column_in, rows_of, and_true, selected, kept}
-use Rattle.plan_lower.specs.Groups as groups
-use Rattle.plan_lower.specs.Groups.{Folding}
-use Rattle.plan_lower.specs.Items.{item_path, item_of, items_of, key_of, numbered_key, keys_of, key_by, in_order}
+use Rattle.plan_programs.specs.Sites.{Base, marked_alone, with_aggregate, value_of}
+use Rattle.plan_programs.specs.Rows.{column_in, rows_of, and_true, selected, kept}
+use Rattle.plan_programs.specs.Groups as groups
+use Rattle.plan_programs.specs.Groups.{Folding}
+use Rattle.plan_programs.specs.Items.{item_path, item_of, items_of, key_of, numbered_key, keys_of, key_by, in_order}
 
 -- how many statements a part has
 abbrev pub count : {A : Type 0} → Writer A → ℕ → ℕ

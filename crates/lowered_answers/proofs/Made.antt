@@ -17,10 +17,10 @@ use Rattle.plan_laws.specs.PlanAnswers.{clauses_of_plan, plan_answer}
 use Rattle.program_writers.specs.Names.{IsBelow}
 use Rattle.program_writers.specs.Writers.{◌>>=◌}
 use Rattle.writer_runs.specs.Runs.{Makes, Delivers, Sees}
-use Rattle.plan_lower.specs.Sites.{Base}
-use Rattle.plan_lower.specs.Rows.{kept}
-use Rattle.plan_lower.specs.Groups.{grouped}
-use Rattle.plan_lower.specs.Lowered.{from_rows, stands_on}
+use Rattle.plan_programs.specs.Sites.{Base}
+use Rattle.plan_programs.specs.Rows.{kept}
+use Rattle.plan_programs.specs.Groups.{grouped}
+use Rattle.plan_programs.specs.Lowered.{from_rows, stands_on}
 use Rattle.lowered_stages.specs.Stages.{Stands}
 use Rattle.lowered_stages.specs.Parts.{CanValue, CanValueAll, itself, IsKeyOf, key_alike, SamePlaces, answer_rows}
 use Rattle.lowered_items.specs.Items.{ShowsItems}

@@ -9,8 +9,8 @@ use Rattle.typed_trees.specs.declared.typed.Aggregate.{Aggregate}
 use Rattle.typed_trees.specs.declared.typed.ColumnRef.{ColumnRef}
 use Rattle.expr_steps.specs.Lowered.{Bytes}
 use Rattle.program_writers.specs.Writers.{through}
-use Rattle.plan_lower.specs.Sites.{Base, marked_alone, with_aggregate}
-use Rattle.plan_lower.specs.Groups.{Folding, aggregate_of, aggregate_path, folding, key_of, key_path, nought_at, run_groups, runs_of, sorted}
+use Rattle.plan_programs.specs.Sites.{Base, marked_alone, with_aggregate}
+use Rattle.plan_programs.specs.Groups.{Folding, aggregate_of, aggregate_path, folding, key_of, key_path, nought_at, run_groups, runs_of, sorted}
 use Rattle.lowered_stages.specs.Parts.{GroupedPlaces}
 use Rattle.lowered_groups.proofs.Bases.{with_last, still_any}
 use Rattle.lowered_answers.proofs.Lists.{all_none, all_more}

@@ -27,9 +27,9 @@ use Rattle.rel_plan.specs.declared.plans.RelPlan.{RelPlan}
 use Rattle.expr_steps.specs.Lowered.{Bytes}
 use Rattle.program_writers.specs.Names.{IsBelow}
 use Rattle.writer_runs.specs.Runs.{Makes, Delivers, Sees}
-use Rattle.plan_lower.specs.Sites.{Base}
-use Rattle.plan_lower.specs.Rows.{kept}
-use Rattle.plan_lower.specs.Lowered.{defined_rows, table_rows, from_rows}
+use Rattle.plan_programs.specs.Sites.{Base}
+use Rattle.plan_programs.specs.Rows.{kept}
+use Rattle.plan_programs.specs.Lowered.{defined_rows, table_rows, from_rows}
 use Rattle.lowered_stages.specs.Stages.{Stands}
 use Rattle.lowered_stages.specs.Parts.{on_table, HasColumnsOf, SamePlaces, RowsRuns, KeptRuns}
 use Rattle.lowered_groups.specs.Laws.{GroupsRun}

@@ -13,11 +13,11 @@ use Rattle.rel_plan.specs.Plans.{arguments_of}
 use Rattle.expr_counts.specs.Counts.{NodeLaw, CountLaw}
 use Rattle.program_writers.specs.Writers.{◌>>=◌, statement}
 use Rattle.writer_runs.specs.Laws.{with_result}
-use Rattle.plan_lower.specs.Sites.{Base}
-use Rattle.plan_lower.specs.Rows.{rows_of, kept}
-use Rattle.plan_lower.specs.Groups.{grouped}
-use Rattle.plan_lower.specs.Items.{items_of, in_order}
-use Rattle.plan_lower.specs.Lowered.{defined_rows, from_rows, stands_on}
+use Rattle.plan_programs.specs.Sites.{Base}
+use Rattle.plan_programs.specs.Rows.{rows_of, kept}
+use Rattle.plan_programs.specs.Groups.{grouped}
+use Rattle.plan_programs.specs.Items.{items_of, in_order}
+use Rattle.plan_programs.specs.Lowered.{defined_rows, from_rows, stands_on}
 use Rattle.lowered_answers.proofs.Bodies.{items_on, behind_where, behind_rows, body}
 use Rattle.lowered_answers.proofs.Counts.{count, count_then, cost, argument_cost, aggregate_cost, rows_most, kept_most, grouped_most, items_most, order_most}
 use Rattle.lowered_answers.proofs.Runs.{Given, texts, few_columns}

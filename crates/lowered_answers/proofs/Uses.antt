@@ -10,10 +10,10 @@ use Rattle.query_answers.specs.Clauses.{is_grouped}
 use Rattle.program_writers.specs.Writers.{Writer, ◌>>=◌}
 use Rattle.writer_runs.specs.Laws.{UsedLaws}
 use Rattle.writer_runs.specs.Uses.{Uses}
-use Rattle.plan_lower.specs.Sites.{Base}
-use Rattle.plan_lower.specs.Rows.{kept}
-use Rattle.plan_lower.specs.Groups.{grouped}
-use Rattle.plan_lower.specs.Lowered.{defined_rows, from_rows, stands_on}
+use Rattle.plan_programs.specs.Sites.{Base}
+use Rattle.plan_programs.specs.Rows.{kept}
+use Rattle.plan_programs.specs.Groups.{grouped}
+use Rattle.plan_programs.specs.Lowered.{defined_rows, from_rows, stands_on}
 use Rattle.lowered_stages.specs.Parts.{RowsUses, KeptUses, ItemsUses}
 use Rattle.lowered_group_checks.specs.Laws.{GroupsUsed}
 use Rattle.lowered_answers.proofs.Bodies.{items_on, behind_where, behind_rows, body}

@@ -18,7 +18,7 @@ use Rattle.plan_laws.specs.PlanAnswers.{plan_answer}
 use Rattle.writer_runs.specs.Laws.{with_result, StandLaws, ResultLaws}
 use Rattle.writer_runs.specs.Runs.{Delivers}
 use Rattle.writer_runs.specs.Uses.{ShowsNothing}
-use Rattle.plan_lower.specs.Lowered.{lowered}
+use Rattle.plan_programs.specs.Lowered.{lowered}
 use Rattle.lowered_stages.specs.Plans.{CanLower}
 use Rattle.lowered_items.specs.Items.{HoldLaw, PathLaw}
 use Rattle.lowered_premises.specs.Laws.{SourceLaw}

@@ -11,7 +11,7 @@ use Rattle.table_load.specs.Databases.{coded}
 use Rattle.table_load.specs.Values.{value_at}
 use Rattle.held_rows.specs.Held.{Told, Holds, packed, one}
 use Rattle.program_writers.specs.Statements.{mark}
-use Rattle.plan_lower.specs.Items.{item_path}
+use Rattle.plan_programs.specs.Items.{item_path}
 
 -- the n-th item of a row, counted from 1, as a slot
 abbrev pub item_slot : List (List ℕ) → ℕ → Row → Slot

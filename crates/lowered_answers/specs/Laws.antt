@@ -14,7 +14,7 @@ use Rattle.query_answers.specs.Answers.{Row}
 use Rattle.rel_plan.specs.declared.plans.RelPlan.{RelPlan}
 use Rattle.plan_laws.specs.PlanAnswers.{plan_answer}
 use Rattle.lowered_stages.specs.Plans.{CanLower}
-use Rattle.plan_lower.specs.Lowered.{lowered}
+use Rattle.plan_programs.specs.Lowered.{lowered}
 use Rattle.lowered_answers.specs.Holding.{HoldsRows}
 
 -- the program passes its check, and makes no vector of more than 2^22 places

@@ -17,8 +17,8 @@ use Rattle.typed_trees.specs.Names.{same_column}
 use Rattle.program_writers.specs.Statements.{out, mark, val, run, zeros, ones, attribute, with_attribute, fold_args, fold_of, at_places}
 use Rattle.program_writers.specs.Statements as statements
 use Rattle.program_writers.specs.Writers.{tell, ◌>>=◌, through, make}
-use Rattle.plan_lower.specs.Groups.{Folding, ascending, sorted, run_path, run_by, runs_of, key_path, key_of, run_groups}
-use Rattle.plan_lower.specs.Sites.{Base, moved_to, path_in, with_column}
+use Rattle.plan_programs.specs.Groups.{Folding, ascending, sorted, run_path, run_by, runs_of, key_path, key_of, run_groups}
+use Rattle.plan_programs.specs.Sites.{Base, moved_to, path_in, with_column}
 use Rattle.writer_checks.specs.Checks.{IsFresh, HasShape, Passes}
 use Rattle.writer_checks.specs.Laws.{IsAttribute, Shaped}
 use Rattle.writer_checks.proofs.Going.{weaker}

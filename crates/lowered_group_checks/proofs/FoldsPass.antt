@@ -13,7 +13,7 @@ use Rattle.typed_trees.specs.declared.typed.AggregateKind.TheVariants as of
 use Rattle.program_writers.specs.Statements.{out, val, run, attribute, with_attribute, fold_args, fold_of, at_places}
 use Rattle.program_writers.specs.Statements as statements
 use Rattle.program_writers.specs.Writers.{◌>>=◌, make}
-use Rattle.plan_lower.specs.Groups.{Folding, collected, folded, is_there, counted, count as count_of, mean, aggregated}
+use Rattle.plan_programs.specs.Groups.{Folding, collected, folded, is_there, counted, count as count_of, mean, aggregated}
 use Rattle.writer_checks.specs.Checks.{IsFresh, HasShape, Passes}
 use Rattle.writer_checks.specs.Laws.{IsAttribute, Shaped}
 use Rattle.writer_checks.proofs.Passing.{operator_laws}

@@ -12,7 +12,7 @@ use Rattle.program_writers.specs.Statements as statements
 use Rattle.program_writers.specs.Writers.{◌>>=◌, make, numbered}
 use Rattle.writer_runs.specs.Uses.{Includes}
 use Rattle.writer_runs.proofs.Used.{beside}
-use Rattle.plan_lower.specs.Groups.{Folding, collected, folded, is_there, counted, count, mean, aggregated}
+use Rattle.plan_programs.specs.Groups.{Folding, collected, folded, is_there, counted, count, mean, aggregated}
 use Rattle.lowered_group_checks.proofs.Used.{UsesAt, here, there, includes_one, includes_more, nothing_used, fewer, then_used, last_used, used_then}
 
 collected_used : (first : Option Label) (folded : Label) (k : ℕ) → UsesAt ((collected first folded k).told ∷ []) (folded ∷ []) (collected first folded) k

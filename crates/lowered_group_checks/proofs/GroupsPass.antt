@@ -19,8 +19,8 @@ use Rattle.expr_lower.specs.declared.places.ColumnPlace.{ColumnPlace}
 use Rattle.expr_steps.specs.Lowered.{Bytes}
 use Rattle.program_writers.specs.Statements.{out, mark, val, run, with_attribute}
 use Rattle.program_writers.specs.Writers.{tell, ◌>>=◌, through, make}
-use Rattle.plan_lower.specs.Groups.{Folding, nought_at, run_path, key_path, aggregated, argument, aggregate_path, aggregate_of}
-use Rattle.plan_lower.specs.Sites.{Base, with_column, with_aggregate}
+use Rattle.plan_programs.specs.Groups.{Folding, nought_at, run_path, key_path, aggregated, argument, aggregate_path, aggregate_of}
+use Rattle.plan_programs.specs.Sites.{Base, with_column, with_aggregate}
 use Rattle.writer_checks.specs.Checks.{IsFresh, HasShape, Passes}
 use Rattle.writer_checks.specs.Laws.{IsAttribute, Shaped}
 use Rattle.writer_checks.specs.Paths.{is_flat}

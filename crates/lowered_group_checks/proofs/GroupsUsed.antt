@@ -14,8 +14,8 @@ use Rattle.program_writers.specs.Statements.{out, mark, val, run, zeros, ones, a
 use Rattle.program_writers.specs.Statements as statements
 use Rattle.program_writers.specs.Writers.{Writer, tell, ◌>>=◌, through, make, numbered}
 use Rattle.writer_runs.proofs.Used.{beside}
-use Rattle.plan_lower.specs.Sites.{Base, marked_alone, moved_to, path_in, with_column, with_aggregate}
-use Rattle.plan_lower.specs.Groups.{Folding, nought_at, ascending, sorted, run_path, run_by, runs_of, key_path, key_of, run_groups, by_columns, one_place, one_run, as_one, aggregated, argument, aggregate_path, aggregate_of}
+use Rattle.plan_programs.specs.Sites.{Base, marked_alone, moved_to, path_in, with_column, with_aggregate}
+use Rattle.plan_programs.specs.Groups.{Folding, nought_at, ascending, sorted, run_path, run_by, runs_of, key_path, key_of, run_groups, by_columns, one_place, one_run, as_one, aggregated, argument, aggregate_path, aggregate_of}
 use Rattle.lowered_group_checks.specs.Laws.{ValueUses, GroupsUsed}
 use Rattle.lowered_group_checks.proofs.Used.{UsesAt, here, there, includes_one, includes_more, nothing_used, fewer, then_used, last_used, used_then, idle_then, through_used, through_idle}
 use Rattle.lowered_group_checks.proofs.FoldsUsed.{aggregated_used}

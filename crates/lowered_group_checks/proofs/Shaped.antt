@@ -19,7 +19,7 @@ use Rattle.program_writers.specs.Names.{IsBelow, is_word}
 use Rattle.program_writers.specs.Statements.{out, mark, attribute}
 use Rattle.program_writers.specs.Statements as statements
 use Rattle.program_writers.specs.Writers.{Writer, tell, ◌>>=◌, make}
-use Rattle.plan_lower.specs.Sites.{Base, path_in}
+use Rattle.plan_programs.specs.Sites.{Base, path_in}
 use Rattle.writer_checks.specs.Checks.{IsFresh, HasShape, Passes}
 use Rattle.writer_checks.specs.Laws.{Shaped}
 use Rattle.writer_checks.proofs.Composing.{compose_laws}

@@ -13,8 +13,8 @@ use Rattle.typed_trees.specs.Names.{same_column}
 use Rattle.typed_trees.specs.Types.{no_aggregate}
 use Rattle.program_writers.specs.Statements.{out, mark, run, zeros, ones}
 use Rattle.program_writers.specs.Writers.{tell, ◌>>=◌, through}
-use Rattle.plan_lower.specs.Groups.{nought_at, sorted, runs_of, key_of, run_groups, by_columns, one_place, one_run, as_one, folding, aggregate_of}
-use Rattle.plan_lower.specs.Sites.{Base, marked_alone}
+use Rattle.plan_programs.specs.Groups.{nought_at, sorted, runs_of, key_of, run_groups, by_columns, one_place, one_run, as_one, folding, aggregate_of}
+use Rattle.plan_programs.specs.Sites.{Base, marked_alone}
 use Rattle.writer_checks.specs.Checks.{IsFresh, HasShape, Passes}
 use Rattle.writer_checks.specs.Laws.{Shaped}
 use Rattle.writer_checks.proofs.Going.{weaker}

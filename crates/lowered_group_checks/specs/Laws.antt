@@ -11,8 +11,8 @@ use Rattle.query_answers.specs.Clauses.{is_grouped}
 use Rattle.expr_steps.specs.Lowered.{Bytes}
 use Rattle.program_writers.specs.Names.{is_word}
 use Rattle.program_writers.specs.Statements.{out}
-use Rattle.plan_lower.specs.Sites.{Base, value_of}
-use Rattle.plan_lower.specs.Groups.{grouped}
+use Rattle.plan_programs.specs.Sites.{Base, value_of}
+use Rattle.plan_programs.specs.Groups.{grouped}
 use Rattle.writer_checks.specs.Checks.{PassesFrom, HasShape}
 use Rattle.writer_runs.specs.Uses.{Uses}
 use Rattle.lowered_stages.specs.Stages.{IsShaped}

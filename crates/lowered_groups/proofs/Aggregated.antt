@@ -29,7 +29,7 @@ use Rattle.program_writers.specs.Names.{is_word}
 use Rattle.program_writers.specs.Statements.{out, attribute}
 use Rattle.program_writers.specs.Statements as statements
 use Rattle.program_writers.specs.Writers.{Writer, ◌>>=◌, make}
-use Rattle.plan_lower.specs.Groups.{Folding, folded, is_there, counted, count, mean, aggregated}
+use Rattle.plan_programs.specs.Groups.{Folding, folded, is_there, counted, count, mean, aggregated}
 use Rattle.writer_runs.specs.Runs.{Makes, Delivers}
 use Rattle.writer_runs.proofs.Composed.{makes_bind}
 use Rattle.lowered_groups.proofs.Cells.{cells, slot_of, absorbed, AreOk, ok_cells, paired_cell, both_cells, first_spreads, second_spreads}

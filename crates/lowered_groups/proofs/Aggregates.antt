@@ -35,9 +35,9 @@ use Rattle.program_writers.specs.Names.{IsBelow}
 use Rattle.program_writers.specs.Statements.{out, mark, with_attribute}
 use Rattle.program_writers.specs.Writers.{Writer, tell, ◌>>=◌, through, make}
 use Rattle.program_writers.proofs.Numbers.{below_more}
-use Rattle.plan_lower.specs.Groups.{Folding, aggregated, argument, aggregate_path, aggregate_of}
-use Rattle.plan_lower.specs.Rows.{everywhere}
-use Rattle.plan_lower.specs.Sites.{Base, with_aggregate, value_of}
+use Rattle.plan_programs.specs.Groups.{Folding, aggregated, argument, aggregate_path, aggregate_of}
+use Rattle.plan_programs.specs.Rows.{everywhere}
+use Rattle.plan_programs.specs.Sites.{Base, with_aggregate, value_of}
 use Rattle.writer_runs.specs.Runs.{Makes, Delivers}
 use Rattle.writer_runs.proofs.Composed.{makes_tell, makes_bind}
 use Rattle.lowered_stages.specs.Laws as stages

@@ -30,8 +30,8 @@ use Rattle.program_writers.specs.Names.{IsBelow}
 use Rattle.program_writers.specs.Statements.{out, mark, run, zeros, ones}
 use Rattle.program_writers.specs.Writers.{tell, ◌>>=◌}
 use Rattle.program_writers.proofs.Numbers.{below_more}
-use Rattle.plan_lower.specs.Groups.{Folding, nought_at, one_place, one_run, as_one}
-use Rattle.plan_lower.specs.Sites.{Base, marked_alone}
+use Rattle.plan_programs.specs.Groups.{Folding, nought_at, one_place, one_run, as_one}
+use Rattle.plan_programs.specs.Sites.{Base, marked_alone}
 use Rattle.writer_runs.specs.Runs.{Makes}
 use Rattle.writer_runs.proofs.Composed.{makes_tell, makes_bind}
 use Rattle.lowered_stages.specs.Stages.{StandsAt}

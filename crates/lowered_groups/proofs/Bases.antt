@@ -21,8 +21,8 @@ use Rattle.held_rows.proofs.Upserted.{upsert_holds}
 use Rattle.program_writers.specs.Names.{IsBelow}
 use Rattle.program_writers.specs.Statements.{out, mark}
 use Rattle.program_writers.proofs.Numbers.{below_more}
-use Rattle.plan_lower.specs.Groups.{key_path, aggregate_path}
-use Rattle.plan_lower.specs.Sites.{Base, with_aggregate}
+use Rattle.plan_programs.specs.Groups.{key_path, aggregate_path}
+use Rattle.plan_programs.specs.Sites.{Base, with_aggregate}
 use Rattle.writer_checks.proofs.Routes.{path_laws}
 use Rattle.lowered_stages.specs.Stages.{StandsAt, told_of, column_told, aggregate_told}
 use Rattle.lowered_groups.proofs.Folds.{stands_later}

@@ -45,8 +45,8 @@ use Rattle.program_writers.specs.Statements.{out, mark, val, run, attribute, wit
 use Rattle.program_writers.specs.Statements as statements
 use Rattle.program_writers.specs.Writers.{Writer, tell, ◌>>=◌, through, make}
 use Rattle.program_writers.proofs.Numbers.{below_more}
-use Rattle.plan_lower.specs.Groups.{run_path, run_by, runs_of, key_path, key_of, run_groups}
-use Rattle.plan_lower.specs.Sites.{Base, path_in, with_column}
+use Rattle.plan_programs.specs.Groups.{run_path, run_by, runs_of, key_path, key_of, run_groups}
+use Rattle.plan_programs.specs.Sites.{Base, path_in, with_column}
 use Rattle.writer_runs.specs.Runs.{Makes, Delivers}
 use Rattle.writer_runs.proofs.Composed.{makes_tell, makes_bind}
 use Rattle.lowered_stages.specs.Stages.{StandsAt, told_of, column_told, aggregate_told}

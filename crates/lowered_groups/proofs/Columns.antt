@@ -14,7 +14,7 @@ use Rattle.expr_lower.specs.Statements.{column_path}
 use Rattle.expr_steps.specs.Lowered.{Bytes}
 use Rattle.held_rows.specs.Held.{Held, Told, column, one}
 use Rattle.program_writers.specs.Statements.{mark}
-use Rattle.plan_lower.specs.Sites.{Base, path_in}
+use Rattle.plan_programs.specs.Sites.{Base, path_in}
 use Rattle.lowered_stages.specs.Stages.{column_told, aggregate_told, StandsAt}
 
 pub same_is : (c d : ColumnRef) → same_column c d ≡ true → c ≡ d

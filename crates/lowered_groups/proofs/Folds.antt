@@ -33,9 +33,9 @@ use Rattle.program_writers.specs.Statements.{out, val, run, attribute, with_attr
 use Rattle.program_writers.specs.Statements as statements
 use Rattle.program_writers.specs.Writers.{Writer, tell, ◌>>=◌, make}
 use Rattle.program_writers.proofs.Numbers.{below_more}
-use Rattle.plan_lower.specs.Groups.{Folding, collected}
-use Rattle.plan_lower.specs.Groups as groups
-use Rattle.plan_lower.specs.Sites.{Base}
+use Rattle.plan_programs.specs.Groups.{Folding, collected}
+use Rattle.plan_programs.specs.Groups as groups
+use Rattle.plan_programs.specs.Sites.{Base}
 use Rattle.writer_runs.specs.Runs.{Makes, Delivers}
 use Rattle.writer_runs.proofs.Composed.{makes_tell}
 use Rattle.lowered_stages.specs.Stages.{StandsAt}

@@ -23,8 +23,8 @@ use Rattle.program_writers.specs.Names.{IsBelow}
 use Rattle.program_writers.specs.Statements.{out, mark, run}
 use Rattle.program_writers.specs.Writers.{tell, ◌>>=◌, through}
 use Rattle.program_writers.proofs.Numbers.{below_more}
-use Rattle.plan_lower.specs.Groups.{Folding, nought_at, sorted, runs_of, run_groups, key_of, by_columns, folding}
-use Rattle.plan_lower.specs.Sites.{Base, marked_alone}
+use Rattle.plan_programs.specs.Groups.{Folding, nought_at, sorted, runs_of, run_groups, key_of, by_columns, folding}
+use Rattle.plan_programs.specs.Sites.{Base, marked_alone}
 use Rattle.writer_runs.specs.Runs.{Makes}
 use Rattle.writer_runs.proofs.Composed.{makes_tell, makes_bind}
 use Rattle.lowered_stages.specs.Stages.{StandsAt}

@@ -33,8 +33,8 @@ use Rattle.held_rows.specs.Held.{Held, Told, present, column, one}
 use Rattle.program_writers.specs.Names.{IsBelow}
 use Rattle.program_writers.specs.Statements.{mark}
 use Rattle.program_writers.specs.Writers.{Writer, through}
-use Rattle.plan_lower.specs.Groups.{Folding, folding, aggregate_of, grouped}
-use Rattle.plan_lower.specs.Sites.{Base}
+use Rattle.plan_programs.specs.Groups.{Folding, folding, aggregate_of, grouped}
+use Rattle.plan_programs.specs.Sites.{Base}
 use Rattle.writer_checks.specs.Checks.{HasShape}
 use Rattle.writer_runs.specs.Runs.{Delivers}
 use Rattle.lowered_stages.specs.Stages.{StandsAt, Stands, told_of, column_told, aggregate_told}

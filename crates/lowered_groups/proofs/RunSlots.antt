@@ -23,7 +23,7 @@ use Rattle.held_rows.specs.Held.{Held, Holds, column, one}
 use Rattle.held_rows.proofs.Projected.{project_holds}
 use Rattle.held_rows.proofs.Upserted.{resized_same, first_slots}
 use Rattle.program_writers.specs.Statements.{mark, run}
-use Rattle.plan_lower.specs.Groups.{run_path}
+use Rattle.plan_programs.specs.Groups.{run_path}
 use Rattle.writer_checks.proofs.Attributes.{projected_alone}
 use Rattle.writer_checks.proofs.Routes.{path_laws}
 use Rattle.lowered_groups.proofs.Bases.{all_left, all_right, all_weaker}

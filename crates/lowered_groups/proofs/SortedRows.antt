@@ -27,8 +27,8 @@ use Rattle.held_rows.proofs.Upserted.{first_slots, gather_holds}
 use Rattle.program_writers.specs.Names.{IsBelow}
 use Rattle.program_writers.specs.Statements.{out, mark, at_places}
 use Rattle.program_writers.specs.Writers.{tell, ◌>>=◌, make}
-use Rattle.plan_lower.specs.Groups.{ascending, sorted}
-use Rattle.plan_lower.specs.Sites.{Base, moved_to, path_in}
+use Rattle.plan_programs.specs.Groups.{ascending, sorted}
+use Rattle.plan_programs.specs.Sites.{Base, moved_to, path_in}
 use Rattle.writer_runs.specs.Runs.{Makes}
 use Rattle.writer_runs.proofs.Composed.{makes_tell, makes_bind}
 use Rattle.lowered_stages.specs.Stages.{StandsAt, told_of}

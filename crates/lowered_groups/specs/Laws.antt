@@ -18,8 +18,8 @@ use Rattle.expr_values.specs.Laws.{KnownLaw, value_slot}
 use Rattle.held_rows.specs.Held.{Held, present}
 use Rattle.program_writers.specs.Names.{IsBelow, is_word}
 use Rattle.program_writers.specs.Statements.{mark}
-use Rattle.plan_lower.specs.Sites.{Base, value_of}
-use Rattle.plan_lower.specs.Groups.{grouped}
+use Rattle.plan_programs.specs.Sites.{Base, value_of}
+use Rattle.plan_programs.specs.Groups.{grouped}
 use Rattle.writer_checks.specs.Checks.{HasShape}
 use Rattle.writer_runs.specs.Runs.{Delivers}
 use Rattle.lowered_stages.specs.Laws.{Tells}

@@ -10,7 +10,7 @@ use Rattle.programs.specs.Mentions.{Label, has_name}
 use Rattle.programs.specs.Outlines.{Outline, outline_of, outlines}
 use Rattle.programs.specs.Vectors.{Attribute, Vector}
 use Rattle.program_writers.specs.Statements.{mark}
-use Rattle.plan_lower.specs.Items.{item_path}
+use Rattle.plan_programs.specs.Items.{item_path}
 use Rattle.lowered_items.specs.Items.{PathLaw}
 
 same_name : (p q : Label) → bytes_eq q p ≡ true → bytes_eq p q ≡ true

@@ -29,8 +29,8 @@ use Rattle.program_writers.specs.Names.{IsBelow}
 use Rattle.program_writers.specs.Statements.{out, mark, at_places}
 use Rattle.program_writers.specs.Writers.{◌>>=◌, through, make}
 use Rattle.program_writers.proofs.Numbers.{below_more}
-use Rattle.plan_lower.specs.Sites.{Base, path_in}
-use Rattle.plan_lower.specs.Items.{item_path, order_path, key_of, numbered_key, keys_of, key_by, in_order}
+use Rattle.plan_programs.specs.Sites.{Base, path_in}
+use Rattle.plan_programs.specs.Items.{item_path, order_path, key_of, numbered_key, keys_of, key_by, in_order}
 use Rattle.writer_runs.specs.Runs.{Makes}
 use Rattle.writer_runs.proofs.Composed.{makes_tell, makes_bind}
 use Rattle.lowered_stages.specs.Stages.{StandsAt, column_told, aggregate_told}

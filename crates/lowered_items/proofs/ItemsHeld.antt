@@ -22,8 +22,8 @@ use Rattle.program_writers.specs.Names.{IsBelow}
 use Rattle.program_writers.specs.Statements.{out, mark, with_attribute}
 use Rattle.program_writers.specs.Writers.{through, make}
 use Rattle.program_writers.proofs.Numbers.{below_more}
-use Rattle.plan_lower.specs.Sites.{Base, value_of}
-use Rattle.plan_lower.specs.Items.{item_path, item_of, items_of}
+use Rattle.plan_programs.specs.Sites.{Base, value_of}
+use Rattle.plan_programs.specs.Items.{item_path, item_of, items_of}
 use Rattle.writer_runs.specs.Runs.{Delivers}
 use Rattle.writer_runs.proofs.Composed.{makes_tell}
 use Rattle.lowered_stages.specs.Laws.{Tells}

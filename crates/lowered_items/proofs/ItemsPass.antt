@@ -25,8 +25,8 @@ use Rattle.expr_lower.specs.Statements.{column_path}
 use Rattle.program_writers.specs.Names.{is_word, IsBelow}
 use Rattle.program_writers.specs.Statements.{out, mark, with_attribute, at_places}
 use Rattle.program_writers.specs.Writers.{◌>>=◌, through, make}
-use Rattle.plan_lower.specs.Sites.{Base, path_in, value_of}
-use Rattle.plan_lower.specs.Items.{item_path, item_of, items_of, order_path, key_of, numbered_key, keys_of, key_by, in_order}
+use Rattle.plan_programs.specs.Sites.{Base, path_in, value_of}
+use Rattle.plan_programs.specs.Items.{item_path, item_of, items_of, order_path, key_of, numbered_key, keys_of, key_by, in_order}
 use Rattle.writer_checks.specs.Checks.{IsFresh, HasShape, Passes, PassesFrom}
 use Rattle.writer_checks.specs.Laws.{IsAttribute, Shaped}
 use Rattle.writer_checks.specs.Paths.{one}

@@ -22,7 +22,7 @@ use Rattle.held_rows.specs.Laws.{row_before}
 use Rattle.program_writers.specs.Names.{IsBelow}
 use Rattle.program_writers.specs.Statements.{mark}
 use Rattle.program_writers.proofs.Numbers.{below_more}
-use Rattle.plan_lower.specs.Items.{item_path, items_of, in_order}
+use Rattle.plan_programs.specs.Items.{item_path, items_of, in_order}
 use Rattle.writer_runs.specs.Runs.{Delivers, Sees}
 use Rattle.lowered_stages.specs.Parts.{CanValueAll, key_alike, ordered_items, answer_rows}
 use Rattle.lowered_items.specs.Items.{ShowsItems, ItemsRun}

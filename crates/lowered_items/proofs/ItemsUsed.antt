@@ -11,8 +11,8 @@ use Rattle.expr_steps.specs.Lowered.{Bytes}
 use Rattle.program_writers.specs.Statements.{out, mark, with_attribute, at_places}
 use Rattle.program_writers.specs.Writers.{Writer, tell, ◌>>=◌, through, make, numbered}
 use Rattle.writer_runs.proofs.Used.{beside}
-use Rattle.plan_lower.specs.Sites.{Base, path_in, value_of}
-use Rattle.plan_lower.specs.Items.{item_path, item_of, items_of, order_path, key_of, numbered_key, keys_of, key_by, in_order}
+use Rattle.plan_programs.specs.Sites.{Base, path_in, value_of}
+use Rattle.plan_programs.specs.Items.{item_path, item_of, items_of, order_path, key_of, numbered_key, keys_of, key_by, in_order}
 use Rattle.lowered_kept.specs.Values.{ValueUses}
 use Rattle.lowered_items.specs.Items.{ItemsUse}
 use Rattle.lowered_items.proofs.Used.{UsesAt, here, there, includes_one, includes_more, fewer, then_used, last_used, used_then, idle_then, nothing_used, through_used, through_idle}

@@ -22,7 +22,7 @@ use Rattle.query_answers.specs.Overs.{each}
 use Rattle.expr_steps.specs.Lowered.{Bytes}
 use Rattle.expr_values.specs.Laws.{CanStand, KnownLaw, is_known, value_slot}
 use Rattle.held_rows.specs.Laws.{rows_cmp, row_before}
-use Rattle.plan_lower.specs.Sites.{Base}
+use Rattle.plan_programs.specs.Sites.{Base}
 use Rattle.lowered_stages.specs.Parts.{CanValue, CanValueAll, IsKeyOf, key_alike}
 use Rattle.lowered_items.specs.Items.{CodesCompare}
 use Rattle.lowered_kept.proofs.Bound.{bound}

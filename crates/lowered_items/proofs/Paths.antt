@@ -4,7 +4,7 @@ use Rattle.std.specs.Fmt.{decimal}
 use Rattle.key_paths.specs.Substructures.{is_at_or_below}
 use Rattle.programs.specs.Mentions.{Label}
 use Rattle.program_writers.specs.Statements.{mark}
-use Rattle.plan_lower.specs.Items.{item_path, order_path}
+use Rattle.plan_programs.specs.Items.{item_path, order_path}
 use Rattle.writer_checks.specs.Laws.{IsAttribute}
 use Rattle.writer_checks.specs.Paths.{is_flat}
 use Rattle.writer_checks.proofs.Routes.{path_laws}

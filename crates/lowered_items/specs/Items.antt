@@ -26,8 +26,8 @@ use Rattle.expr_values.specs.Laws.{KnownLaw, is_known}
 use Rattle.held_rows.specs.Held.{Holds, packed, one}
 use Rattle.program_writers.specs.Names.{IsBelow}
 use Rattle.program_writers.specs.Statements.{mark}
-use Rattle.plan_lower.specs.Items.{item_path}
-use Rattle.plan_lower.specs.Sites.{Base}
+use Rattle.plan_programs.specs.Items.{item_path}
+use Rattle.plan_programs.specs.Sites.{Base}
 use Rattle.writer_checks.specs.Checks.{HasShape, PassesFrom}
 use Rattle.writer_runs.specs.Runs.{Delivers, Sees}
 use Rattle.lowered_stages.specs.Stages.{Stands, IsShaped}

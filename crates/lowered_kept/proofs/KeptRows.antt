@@ -23,9 +23,9 @@ use Rattle.held_values.proofs.Truths.{truth_laws}
 use Rattle.program_writers.specs.Names.{IsBelow}
 use Rattle.program_writers.specs.Writers.{◌>>=◌, tell, through}
 use Rattle.program_writers.proofs.Numbers.{below_more}
-use Rattle.plan_lower.specs.Sites.{Base}
-use Rattle.plan_lower.specs.Rows.{everywhere, and_true, selected}
-use Rattle.plan_lower.specs.Rows as lowered
+use Rattle.plan_programs.specs.Sites.{Base}
+use Rattle.plan_programs.specs.Rows.{everywhere, and_true, selected}
+use Rattle.plan_programs.specs.Rows as lowered
 use Rattle.writer_runs.specs.Runs.{Delivers}
 use Rattle.writer_runs.proofs.Composed.{makes_tell}
 use Rattle.lowered_stages.specs.Stages.{StandsAt, Stands}

@@ -25,9 +25,9 @@ use Rattle.expr_scopes.specs.Scopes.{names_in}
 use Rattle.expr_programs.specs.Values.{HasPlaces}
 use Rattle.program_writers.specs.Statements.{out, mark, val, run, pair, attribute, with_attribute, fold_args, fold_of, at_places}
 use Rattle.program_writers.specs.Writers.{Writer, ◌>>=◌, make, tell, through}
-use Rattle.plan_lower.specs.Sites.{Base, moved_to, value_of}
-use Rattle.plan_lower.specs.Rows.{everywhere, and_true, places_of, selected}
-use Rattle.plan_lower.specs.Rows as lowered
+use Rattle.plan_programs.specs.Sites.{Base, moved_to, value_of}
+use Rattle.plan_programs.specs.Rows.{everywhere, and_true, places_of, selected}
+use Rattle.plan_programs.specs.Rows as lowered
 use Rattle.writer_checks.specs.Checks.{IsFresh, HasShape, Passes}
 use Rattle.writer_checks.specs.Laws.{IsAttribute, NoneAbove}
 use Rattle.writer_checks.proofs.Above.{none_above_one}

@@ -15,8 +15,8 @@ use Rattle.typed_trees.specs.declared.typed.TypedExpr.{TypedExpr}
 use Rattle.expr_steps.specs.Lowered.{Bytes}
 use Rattle.program_writers.specs.Statements.{out, mark, val, run, pair, attribute, with_attribute, fold_args, fold_of, at_places}
 use Rattle.program_writers.specs.Writers.{numbered, statement, through}
-use Rattle.plan_lower.specs.Sites.{Base, value_of}
-use Rattle.plan_lower.specs.Rows.{everywhere, and_true, selected}
+use Rattle.plan_programs.specs.Sites.{Base, value_of}
+use Rattle.plan_programs.specs.Rows.{everywhere, and_true, selected}
 use Rattle.writer_runs.specs.Uses.{Includes, Uses}
 use Rattle.writer_runs.proofs.Agreeing.{has_first, has_later}
 use Rattle.writer_runs.proofs.Used.{used_laws}

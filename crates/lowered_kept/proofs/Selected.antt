@@ -27,9 +27,9 @@ use Rattle.held_rows.proofs.VectorLaws.{vector_laws}
 use Rattle.program_writers.specs.Names.{IsBelow}
 use Rattle.program_writers.specs.Statements.{out, val, run, with_attribute, fold_args, fold_of, at_places}
 use Rattle.program_writers.specs.Writers.{Writer, ◌>>=◌, make, tell}
-use Rattle.plan_lower.specs.Sites.{Base, moved_to}
-use Rattle.plan_lower.specs.Rows.{places_of}
-use Rattle.plan_lower.specs.Rows as lowered
+use Rattle.plan_programs.specs.Sites.{Base, moved_to}
+use Rattle.plan_programs.specs.Rows.{places_of}
+use Rattle.plan_programs.specs.Rows as lowered
 use Rattle.writer_runs.specs.Runs.{Makes, Sees}
 use Rattle.writer_runs.proofs.Composed.{makes_tell, makes_bind, makes_one}
 use Rattle.lowered_stages.specs.Laws.{Tells}

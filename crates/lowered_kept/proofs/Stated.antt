@@ -17,7 +17,7 @@ use Rattle.expr_programs.proofs.Whole.{expr_run_law, expr_check_law, expr_use_la
 use Rattle.held_values.specs.Lifted.{Paths, expr_cells}
 use Rattle.program_writers.specs.Names.{IsBelow, is_word}
 use Rattle.program_writers.specs.Statements.{out, mark}
-use Rattle.plan_lower.specs.Sites.{Base, value_of, path_in}
+use Rattle.plan_programs.specs.Sites.{Base, value_of, path_in}
 use Rattle.writer_checks.specs.Checks.{PassesFrom, HasShape}
 use Rattle.writer_runs.specs.Runs.{Delivers, Sees}
 use Rattle.lowered_kept.specs.Values.{ValueUses}

@@ -23,8 +23,8 @@ use Rattle.program_writers.specs.Names.{IsBelow}
 use Rattle.program_writers.specs.Statements.{out, mark, pair, attribute}
 use Rattle.program_writers.specs.Writers.{Writer, make, through}
 use Rattle.program_writers.proofs.Numbers.{below_more}
-use Rattle.plan_lower.specs.Sites.{Base, value_of}
-use Rattle.plan_lower.specs.Rows.{everywhere, and_true}
+use Rattle.plan_programs.specs.Sites.{Base, value_of}
+use Rattle.plan_programs.specs.Rows.{everywhere, and_true}
 use Rattle.writer_runs.specs.Runs.{Makes, Delivers, Sees}
 use Rattle.writer_runs.proofs.Composed.{makes_tell, makes_one}
 use Rattle.lowered_stages.specs.Laws.{Tells}

@@ -26,7 +26,7 @@ use Rattle.held_values.proofs.Lifted.{lift_laws}
 use Rattle.program_writers.specs.Names.{IsBelow}
 use Rattle.program_writers.specs.Statements.{out, mark}
 use Rattle.program_writers.specs.Writers.{Writer}
-use Rattle.plan_lower.specs.Sites.{Base, value_of}
+use Rattle.plan_programs.specs.Sites.{Base, value_of}
 use Rattle.writer_runs.specs.Runs.{Delivers}
 use Rattle.lowered_stages.specs.Laws.{Tells}
 use Rattle.lowered_stages.specs.Stages.{Covers, column_told, aggregate_told, told_of}

@@ -11,8 +11,8 @@ use Rattle.query_answers.specs.Answers.{condition}
 use Rattle.query_answers.specs.Overs.{kept}
 use Rattle.expr_steps.specs.Lowered.{Bytes}
 use Rattle.program_writers.specs.Names.{IsBelow}
-use Rattle.plan_lower.specs.Sites.{Base}
-use Rattle.plan_lower.specs.Rows as rows
+use Rattle.plan_programs.specs.Sites.{Base}
+use Rattle.plan_programs.specs.Rows as rows
 use Rattle.writer_runs.specs.Runs.{Delivers}
 use Rattle.lowered_stages.specs.Stages.{Stands}
 use Rattle.lowered_stages.specs.Parts.{CanValue, CanValueAll, SamePlaces}

@@ -12,7 +12,7 @@ use Rattle.expr_values.specs.Laws.{value_slot}
 use Rattle.held_rows.specs.Held.{Held, present}
 use Rattle.program_writers.specs.Names.{IsBelow, is_word}
 use Rattle.program_writers.specs.Statements.{out}
-use Rattle.plan_lower.specs.Sites.{Base, value_of}
+use Rattle.plan_programs.specs.Sites.{Base, value_of}
 use Rattle.writer_checks.specs.Checks.{PassesFrom, HasShape}
 use Rattle.writer_runs.specs.Runs.{Delivers}
 use Rattle.writer_runs.specs.Uses.{Uses}

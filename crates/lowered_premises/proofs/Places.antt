@@ -27,7 +27,7 @@ use Rattle.rel_plan.specs.Plans.{conditions_of_sources, expressions, is_grouped}
 use Rattle.rel_plan.specs.Prunes.{sorted_by, is_named}
 use Rattle.plan_laws.specs.PlanAnswers.{clauses_of_plan}
 use Rattle.plan_laws.specs.WellFormed.{places, query_of}
-use Rattle.plan_lower.specs.Sites.{Base}
+use Rattle.plan_programs.specs.Sites.{Base}
 use Rattle.lowered_stages.specs.Parts.{CanGroup, CanValue, HasColumnsOf, IsKeyOf}
 use Rattle.lowered_stages.specs.Plans.{CanLower}
 use Rattle.lowered_premises.specs.Sources.{OverTable, HasGroupPlaces}

@@ -14,7 +14,7 @@ use Rattle.query_answers.specs.Overs.{◌>>=◌, each, kept}
 use Rattle.rel_plan.specs.declared.plans.RelPlan.{RelPlan}
 use Rattle.rel_plan.specs.Prunes.{is_named}
 use Rattle.plan_laws.specs.PlanAnswers.{clauses_of_plan, plan_answer}
-use Rattle.plan_lower.specs.Sites.{Base}
+use Rattle.plan_programs.specs.Sites.{Base}
 use Rattle.lowered_stages.specs.Parts.{CanValue, CanValueAll, on_table, HasColumnsOf, CanGroup, CanGroupRows, itself, IsKeyOf, key_alike, answer_rows}
 use Rattle.lowered_stages.specs.Plans.{CanLower}
 use Rattle.lowered_premises.specs.Sources.{OverTable, texts_of, alone, met_rows, IsRowOf, IsGroupOf, HasGroupPlaces}

@@ -12,7 +12,7 @@ use Rattle.query_answers.specs.Answers.{Row, FromRow, Group, groups_of, meets, o
 use Rattle.query_answers.specs.Clauses.{Clauses}
 use Rattle.expr_steps.specs.Lowered.{Bytes}
 use Rattle.rel_plan.specs.declared.plans.RelPlan.{RelPlan}
-use Rattle.plan_lower.specs.Sites.{Base}
+use Rattle.plan_programs.specs.Sites.{Base}
 
 -- the one source of a plan, and its table with its definition
 pub record OverTable (defs : List TableDef) (ts : List Table) (p : RelPlan) (s : PlanSource) (def : TableDef) (t : Table) : Type 0 where

@@ -22,8 +22,8 @@ use Rattle.table_load.proofs.ColumnNames.{has_columns}
 use Rattle.expr_lower.specs.declared.places.ColumnPlace.{ColumnPlace}
 use Rattle.program_writers.specs.Statements.{mark, ones, with_attribute}
 use Rattle.program_writers.specs.Writers.{tell, ◌>>=◌, through, make, numbered}
-use Rattle.plan_lower.specs.Rows.{value_path, loaded_path, column_in, marked}
-use Rattle.plan_lower.specs.Sites.{Base, base, marked_alone, with_column}
+use Rattle.plan_programs.specs.Rows.{value_path, loaded_path, column_in, marked}
+use Rattle.plan_programs.specs.Sites.{Base, base, marked_alone, with_column}
 use Rattle.writer_checks.specs.Checks.{IsFresh, HasShape, Passes}
 use Rattle.writer_checks.specs.Laws.{Shaped}
 use Rattle.writer_checks.proofs.Composing.{tell_passes, behind_passes}

@@ -23,8 +23,8 @@ use Rattle.program_writers.specs.Names.{IsBelow}
 use Rattle.program_writers.specs.Statements.{mark, with_attribute}
 use Rattle.program_writers.specs.Writers.{tell, through, make, numbered}
 use Rattle.program_writers.proofs.Numbers.{below_more}
-use Rattle.plan_lower.specs.Rows.{value_path, loaded_path, column_in}
-use Rattle.plan_lower.specs.Sites.{Base, base, with_column}
+use Rattle.plan_programs.specs.Rows.{value_path, loaded_path, column_in}
+use Rattle.plan_programs.specs.Sites.{Base, base, with_column}
 use Rattle.held_rows.specs.Held.{Held, column, one, Told, Holds}
 use Rattle.held_rows.specs.Vectors.{IsBeside}
 use Rattle.held_rows.proofs.Upserted.{upsert_holds}

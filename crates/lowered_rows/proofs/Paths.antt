@@ -13,7 +13,7 @@ use Rattle.std.proofs.lemmas.Slice.Eq.{bytes_eq-Decides}
 use Rattle.key_paths.specs.Paths.{is_dot}
 use Rattle.key_paths.specs.Substructures.{is_at_or_below, begins_segment_or_ends}
 use Rattle.program_writers.proofs.Digits.{all_digits, printed}
-use Rattle.plan_lower.specs.Rows.{value_path}
+use Rattle.plan_programs.specs.Rows.{value_path}
 
 and_parts : (a b : Bool) → (a && b) ≡ true → (a ≡ true) × (b ≡ true)
 and_parts true b h = (refl, h)

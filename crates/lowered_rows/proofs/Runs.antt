@@ -22,8 +22,8 @@ use Rattle.voodoo_ops.specs.Ranges.{ranged}
 use Rattle.program_writers.specs.Names.{IsBelow}
 use Rattle.program_writers.specs.Statements.{mark, ones}
 use Rattle.program_writers.specs.Writers.{◌>>=◌, through, make, numbered}
-use Rattle.plan_lower.specs.Rows.{column_in}
-use Rattle.plan_lower.specs.Sites.{Base, base, marked_alone}
+use Rattle.plan_programs.specs.Rows.{column_in}
+use Rattle.plan_programs.specs.Sites.{Base, base, marked_alone}
 use Rattle.held_rows.specs.Held.{present, one, Told, Holds}
 use Rattle.held_rows.proofs.Upserted.{range_holds}
 use Rattle.writer_runs.specs.Runs.{Sees}

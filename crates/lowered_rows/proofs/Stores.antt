@@ -30,7 +30,7 @@ use Rattle.table_load.specs.Values.{Table, value_at}
 use Rattle.table_load.proofs.ColumnNames.{path_of_name}
 use Rattle.table_load.proofs.StoreFacts.{names_differ}
 use Rattle.program_writers.specs.Statements.{out}
-use Rattle.plan_lower.specs.Rows.{loaded_path, named_path, path_at}
+use Rattle.plan_programs.specs.Rows.{loaded_path, named_path, path_at}
 
 -- ---- texts
 

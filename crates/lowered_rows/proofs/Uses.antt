@@ -4,8 +4,8 @@ use Rattle.programs.specs.declared.op.Statement.{Statement}
 use Rattle.programs.specs.Mentions.{Label}
 use Rattle.sql_read.specs.declared.definition.TableDef.{TableDef}
 use Rattle.program_writers.specs.Writers.{through}
-use Rattle.plan_lower.specs.Rows.{column_in, rows_of}
-use Rattle.plan_lower.specs.Sites.{Base}
+use Rattle.plan_programs.specs.Rows.{column_in, rows_of}
+use Rattle.plan_programs.specs.Sites.{Base}
 use Rattle.writer_runs.specs.Uses.{never_over, Uses}
 use Rattle.writer_runs.proofs.Used.{idle, append, more}
 use Rattle.lowered_stages.specs.Parts.{RowsUses, told_at}

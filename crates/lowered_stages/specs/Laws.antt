@@ -1,5 +1,5 @@
 -- The value of an expression over the rows that stand at a base: the part that writes it makes a slot for each row, or is Over where the value is on one of them.
-use Rattle.std.specs.Prelude.{◌≡◌, ℕ, ◌+◌, ℤ, List, All, length}
+use Rattle.std.specs.Prelude.{◌≡◌, ℕ, ℤ, List, All, length}
 use Rattle.programs.specs.Vectors.{Env}
 use Rattle.programs.specs.Vectors as vectors
 use Rattle.typed_trees.specs.declared.typed.TypedExpr.{TypedExpr}
@@ -13,7 +13,7 @@ use Rattle.expr_values.specs.Laws.{CanStand, IsLowerable, value_slot}
 use Rattle.held_rows.specs.Held.{Held, column, present}
 use Rattle.program_writers.specs.Names.{IsBelow, is_word}
 use Rattle.program_writers.specs.Statements.{out}
-use Rattle.plan_lower.specs.Sites.{Base, value_of}
+use Rattle.plan_programs.specs.Sites.{Base, value_of}
 use Rattle.writer_runs.specs.Runs.{Delivers, Sees}
 use Rattle.lowered_stages.specs.Stages.{StandsAt, Covers}
 

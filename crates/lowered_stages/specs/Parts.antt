@@ -1,19 +1,17 @@
 -- What each part of a plan's program does: it makes the rows or groups that it is to make, passes its check, and is used.
 -- After SQL-92 (ISO/IEC 9075:1992), 7.3 <table expression> to 7.9 <query specification> and 13.1 <order by clause>.
-use Rattle.std.specs.Prelude.{◌≡◌, ℕ, ◌+◌, ◌-◌, ◌≤◌, ◌<◌, ◌^◌, Bool, true, List, [], ◌∷◌, ◌++◌, All, map, length, slice_get, Option, Some, None, Result, Ok, Err, ◌==◌, IsSome}
+use Rattle.std.specs.Prelude.{◌≡◌, ℕ, ◌+◌, ◌-◌, ◌≤◌, ◌<◌, ◌^◌, Bool, true, List, [], ◌∷◌, All, map, length, slice_get, Option, Some, None, Ok, ◌==◌, IsSome}
 use Rattle.std.specs.Option.{ForSome}
 use Rattle.control_vectors.specs.Controls.{Control}
 use Rattle.control_vectors.specs.Slots.{Slot, fits_128}
-use Rattle.control_vectors.specs.declared.Over.{Over}
-use Rattle.programs.specs.Check.{Known}
 use Rattle.programs.specs.Mentions.{Label}
 use Rattle.programs.specs.Outlines.{Shapes, outlines}
-use Rattle.programs.specs.Vectors.{Env, Named, tables}
+use Rattle.programs.specs.Vectors.{Env, tables}
 use Rattle.query_sizes.specs.Sizes.{nodes}
 use Rattle.sql_read.specs.declared.definition.TableDef.{TableDef}
 use Rattle.sql_read.specs.Forms.{IsFormed}
 use Rattle.sql_types.specs.Catalog.{findings}
-use Rattle.table_load.specs.Databases.{DatabaseValue, database_of}
+use Rattle.table_load.specs.Databases.{database_of}
 use Rattle.table_load.specs.Values.{Table, value_at}
 use Rattle.typed_trees.specs.declared.typed.Aggregate.{Aggregate}
 use Rattle.typed_trees.specs.declared.typed.ColumnRef.{ColumnRef}
@@ -23,26 +21,26 @@ use Rattle.typed_trees.specs.declared.typed.OrderKey.{OrderKey}
 use Rattle.typed_trees.specs.declared.typed.TypedExpr.{TypedExpr}
 use Rattle.typed_trees.specs.Names.{same_column}
 use Rattle.typed_trees.specs.Typed.{IsCondition}
-use Rattle.typed_trees.specs.Types.{DataType, no_aggregate, aggregate_type, types_of}
-use Rattle.std.specs.List.{list_any, list_all}
-use Rattle.typed_values.specs.Values.{On, Valued, value}
+use Rattle.typed_trees.specs.Types.{DataType, no_aggregate, aggregate_type}
+use Rattle.std.specs.List.{list_any}
+use Rattle.typed_values.specs.Values.{On}
 use Rattle.sql_values.specs.Values.{Value, null}
 use Rattle.typed_trees.specs.declared.kinds.Kind.{Kind}
 use Rattle.value_laws.specs.Laws.{is_of}
-use Rattle.query_answers.specs.Answers.{Row, FromRow, Group, OutputRow, condition, groups_of, on_group, on_row, output_row}
+use Rattle.query_answers.specs.Answers.{Row, FromRow, OutputRow, condition, on_row}
 use Rattle.query_answers.specs.Answers as answers
 use Rattle.query_answers.specs.Clauses.{Clauses}
 use Rattle.query_answers.specs.Overs.{each}
 use Rattle.query_answers.specs.Overs as overs
 use Rattle.expr_steps.specs.Lowered.{Bytes}
 use Rattle.expr_values.specs.Laws.{CanStand, IsLowerable, is_known}
-use Rattle.program_writers.specs.Names.{IsBelow, is_word}
+use Rattle.program_writers.specs.Names.{IsBelow}
 use Rattle.program_writers.specs.Writers.{Writer}
-use Rattle.plan_lower.specs.Sites.{Base, value_of}
-use Rattle.plan_lower.specs.Rows.{rows_of, kept}
-use Rattle.plan_lower.specs.Groups.{grouped}
-use Rattle.plan_lower.specs.Items.{items_of, item_path}
-use Rattle.plan_lower.specs.Items as lowered_items
+use Rattle.plan_programs.specs.Sites.{Base}
+use Rattle.plan_programs.specs.Rows.{rows_of, kept}
+use Rattle.plan_programs.specs.Groups.{grouped}
+use Rattle.plan_programs.specs.Items.{items_of, item_path}
+use Rattle.plan_programs.specs.Items as lowered_items
 use Rattle.held_rows.specs.Held.{Holds, packed, one}
 use Rattle.program_writers.specs.Statements.{mark}
 use Rattle.program_writers.specs.Writers.{◌>>=◌}
@@ -50,9 +48,9 @@ use Rattle.table_load.specs.Databases.{coded}
 use Rattle.programs.specs.Vectors.{Vector}
 use Rattle.std.specs.List.{range_with_len}
 use Rattle.writer_checks.specs.Checks.{PassesFrom, HasShape}
-use Rattle.writer_runs.specs.Runs.{Makes, Delivers, Sees}
+use Rattle.writer_runs.specs.Runs.{Makes, Delivers}
 use Rattle.writer_runs.specs.Uses.{Uses}
-use Rattle.lowered_stages.specs.Stages.{StandsAt, Stands, Covers, IsShaped}
+use Rattle.lowered_stages.specs.Stages.{Stands, Covers, IsShaped}
 
 -- ---- what an expression is, so that it has a value over a base
 
@@ -153,23 +151,6 @@ pub record CanGroupRows (texts : List Bytes) (columns : List ColumnRef) (aggrega
   pub few : length rows ≤ 2 ^ 20
   pub arguments : All (λ a. ForSome a.argument (CanValueAll texts no_aggregate on_row rows)) aggregates
 
--- the groups, with the values of their aggregates: `q` has these group columns and aggregates
-abbrev pub GroupedRuns : Type 0
-GroupedRuns =
-    (texts : List Bytes) (q : Clauses) (len : ℕ) (rows : List FromRow) (b : Base) (k : ℕ) (store env : Env)
-    → CanGroup b q.groups q.aggregates → CanGroupRows texts q.groups q.aggregates rows → IsBelow k b.vector → Stands texts b on_row len rows env
-    → Delivers store (grouped texts b q.groups q.aggregates) k env (each (on_group q) (groups_of q.groups rows))
-    (λ groups c next after. (count : ℕ) × (Stands texts c itself count groups after × (IsBelow next c.vector × (All (λ g. list_any (λ p. same_column p.column g) c.columns ≡ true) q.groups × ((n : ℕ) → n < length q.aggregates → list_any (λ p. p.aggregate == n) c.aggregates ≡ true)))))
-
--- the groups' vector is as long as the rows', or has one place
-abbrev pub GroupedPasses : Type 0
-GroupedPasses =
-    (tables : Shapes) (texts : List Bytes) (len : ℕ) (b : Base) (columns : List ColumnRef) (aggregates : List Aggregate) → len ≤ 2 ^ 22 → CanGroup b columns aggregates
-    → PassesFrom tables (grouped texts b columns aggregates) (IsShaped len b) (λ c shapes. (count : ℕ) × ((count ≤ 2 ^ 22) × IsShaped count c shapes))
-
-abbrev pub GroupedUses : Type 0
-GroupedUses = (texts : List Bytes) (b : Base) (columns : List ColumnRef) (aggregates : List Aggregate) (k : ℕ) → Uses ((told_at (grouped texts b columns aggregates) k).vector ∷ []) (b.vector ∷ []) (grouped texts b columns aggregates k).statements
-
 -- the groups have places for their columns and aggregates
 abbrev pub GroupedPlaces : Type 0
 GroupedPlaces =
@@ -200,14 +181,6 @@ pub record HoldsItems (texts : List Bytes) (items : ℕ) (rows : List Row) (v : 
   pub fit : length rows ≤ v.len
   pub holds : Holds v (packed v.len rows) ((mark, one) ∷ map (λ n. (item_path n, λ row. coded texts (value_at (n - 1) row))) (range_with_len 1 items))
   pub alone : length v.attributes ≡ items + 1
-
-abbrev pub ItemsRuns : Type 1
-ItemsRuns =
-    (A : Type 0) (texts : List Bytes) (at : ℕ → Option DataType) (on : A → On) (q : Clauses) (len : ℕ) (rows : List A) (b : Base) (k : ℕ) (store env : Env)
-    → All (CanValue at b) q.items → All (CanValueAll texts at on rows) q.items → length q.items ≤ 64 → length q.order ≤ 8 → All (λ key. IsKeyOf (length q.items) b key.key) q.order → All (λ key. key_alike texts on rows key.key) q.order
-    → IsBelow k b.vector → Stands texts b on len rows env
-    → Delivers store (ordered_items texts b q.items q.order) k env (each (λ a. output_row q (on a)) rows)
-    (λ outputs name next after. (v : Vector) × (Sees after name v × (HoldsItems texts (length q.items) (answer_rows q outputs) v × IsBelow next name)))
 
 abbrev pub ItemsPasses : Type 0
 ItemsPasses =

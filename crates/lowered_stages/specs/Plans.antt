@@ -1,6 +1,6 @@
 -- Plans that can be lowered: those of accepted queries over one table.
 -- After SQL-92 (ISO/IEC 9075:1992), 7.3 <table expression> to 7.9 <query specification>.
-use Rattle.std.specs.Prelude.{◌≡◌, ℕ, ◌≤◌, List, All, length}
+use Rattle.std.specs.Prelude.{◌≡◌, ◌≤◌, List, All, length}
 use Rattle.std.specs.Option.{ForSome}
 use Rattle.sql_read.specs.declared.definition.TableDef.{TableDef}
 use Rattle.table_load.specs.Values.{Table}

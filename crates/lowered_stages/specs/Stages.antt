@@ -1,10 +1,8 @@
 -- Rows or groups that stand at a base: what a part of a plan's program finds in the vector that it works on, and leaves in the one that it makes.
 -- At each marked place stands one row, in order, with the slots of its columns' and aggregates' values; at every other place there is nothing.
-use Rattle.std.specs.Prelude.{◌≡◌, ◌≢◌, ℕ, ◌≤◌, ◌<◌, ◌^◌, Bool, true, ◌&&◌, ◌==◌, List, [], ◌∷◌, ◌++◌, All, map, length, Option, Some, None, Result, Ok, Err}
-use Rattle.std.specs.List.{list_any, list_all}
-use Rattle.control_vectors.specs.Slots.{Slot}
-use Rattle.control_vectors.specs.declared.Over.{Over}
-use Rattle.programs.specs.Mentions.{Label, has_name}
+use Rattle.std.specs.Prelude.{◌≡◌, ◌≢◌, ℕ, true, ◌==◌, List, ◌∷◌, ◌++◌, map, length}
+use Rattle.std.specs.List.{list_any}
+use Rattle.programs.specs.Mentions.{Label}
 use Rattle.programs.specs.Outlines.{Shapes}
 use Rattle.programs.specs.Vectors.{Vector, Env}
 use Rattle.programs.specs.declared.op.Statement.{Statement}
@@ -13,15 +11,14 @@ use Rattle.table_load.specs.Databases.{coded}
 use Rattle.typed_trees.specs.declared.typed.ColumnRef.{ColumnRef}
 use Rattle.typed_trees.specs.declared.typed.TypedExpr.{TypedExpr}
 use Rattle.typed_trees.specs.Names.{same_column, names_column, names_aggregate}
-use Rattle.typed_values.specs.Values.{Valued, On, value}
+use Rattle.typed_values.specs.Values.{On}
 use Rattle.expr_lower.specs.declared.places.ColumnPlace.{ColumnPlace}
 use Rattle.expr_lower.specs.declared.places.AggregatePlace.{AggregatePlace}
 use Rattle.expr_steps.specs.Lowered.{Bytes}
 use Rattle.expr_values.specs.Laws.{value_slot}
 use Rattle.held_rows.specs.Held.{Held, Told, Holds, present, one}
-use Rattle.program_writers.specs.Names.{IsBelow}
 use Rattle.program_writers.specs.Statements.{mark}
-use Rattle.plan_lower.specs.Sites.{Base}
+use Rattle.plan_programs.specs.Sites.{Base}
 use Rattle.writer_checks.specs.Checks.{HasShape}
 use Rattle.writer_runs.specs.Runs.{Sees}
 

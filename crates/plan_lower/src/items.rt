@@ -4,16 +4,16 @@ ghost use Rattle.std.specs.Prelude.{◌≡◌, ◌+◌, IfOk, OnOk, map};
 ghost use Rattle.std.specs.List.{enumerate_from};
 ghost use Rattle.program_writers.specs.Codes.{Adds};
 ghost use Rattle.program_writers.specs.Writers.{through};
-ghost use Rattle.plan_lower.specs.Items as spec;
+ghost use Rattle.plan_programs.specs.Items as spec;
 
 use crate::paths::{item_path, order_path};
-use crate::sites::{Base, value_of};
 use dict_codes::Dictionary;
 use io_edge::{Name, NoMemory};
 use program_writers::Writer;
 use program_writers::operators::{at_places, order, persist, project, with_attribute};
 use program_writers::paths::{mark, out};
 use programs::{OrderKeys, OrderPath};
+use row_lower::sites::{Base, value_of};
 use std::alloc::Global;
 use typed_trees::{KeyRef, OrderKey, TypedExpr};
 

@@ -5,13 +5,8 @@
 //! nonempty, in order, and nothing at the others.
 #![tactic(auto)]
 
-mod aggregates;
-mod groups;
 mod items;
 mod lowering;
-mod parts;
 mod paths;
-mod rows;
-mod sites;
 
 pub use lowering::lower;

@@ -2,20 +2,20 @@
 
 ghost use Rattle.std.specs.Prelude.{◌≡◌, IfOk, OnOk, option_to_list};
 ghost use Rattle.program_writers.specs.Codes.{Adds};
-ghost use Rattle.plan_lower.specs.Lowered as spec;
-ghost use Rattle.plan_lower.specs.Rows as rows;
+ghost use Rattle.plan_programs.specs.Lowered as spec;
+ghost use Rattle.plan_programs.specs.Rows as rows;
 
-use crate::aggregates::grouped;
 use crate::items::answered;
-use crate::rows::{kept, rows_of};
-use crate::sites::Base;
 use control_plan::ControlPlan;
 use control_vectors::ControlVector;
 use dict_codes::Dictionary;
+use group_lower::grouped;
 use io_edge::{Name, NoMemory};
 use program_writers::Writer;
 use programs::Program;
 use rel_plan::RelPlan;
+use row_lower::rows::{kept, rows_of};
+use row_lower::sites::Base;
 use sql_read::TableDef;
 use std::alloc::Global;
 use table_load::Database;

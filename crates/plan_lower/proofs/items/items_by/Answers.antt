@@ -2,7 +2,7 @@ use Rattle.std.proofs.Common.{◌+◌, arith}
 use Rattle.std.specs.List.{enumerate_from}
 use Rattle.program_writers.specs.Writers.{through}
 use Rattle.program_writers.proofs.Writing.{numbered_next, numbered_end}
-use Rattle.plan_lower.specs.Items as spec
+use Rattle.plan_programs.specs.Items as spec
 use Rattle.plan_lower.proofs.items.items_by.Goals as goal
 
 pub loop-k-preserved : goal.loop-k-preserved

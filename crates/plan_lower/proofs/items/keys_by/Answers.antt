@@ -2,8 +2,8 @@ use Rattle.std.proofs.Common.{arith}
 use Rattle.std.specs.List.{enumerate_from}
 use Rattle.program_writers.specs.Writers.{through}
 use Rattle.program_writers.proofs.Writing.{numbered_next, numbered_end}
-use Rattle.plan_lower.specs.Items as spec
-use Rattle.plan_lower.proofs.Spelled.{any_default}
+use Rattle.plan_programs.specs.Items as spec
+use Rattle.row_lower.proofs.Lists.{any_default}
 use Rattle.plan_lower.proofs.items.keys_by.Goals as goal
 
 pub loop-j-preserved : goal.loop-j-preserved

@@ -2,7 +2,7 @@ use Rattle.std.proofs.Common.{drop}
 use Rattle.std.specs.List.{enumerate_from}
 use Rattle.program_writers.specs.Writers.{through}
 use Rattle.program_writers.proofs.Writing.{Continues}
-use Rattle.plan_lower.specs.Items as spec
+use Rattle.plan_programs.specs.Items as spec
 use Rattle.plan_lower.proofs.items.keys_by.Given as goal
 
 abbrev pub invariant-loop-j : goal.invariant-loop-j

@@ -1,6 +1,6 @@
 use Rattle.std.proofs.Common.{◌≡◌, ◌++◌, drop, map}
 use Rattle.std.specs.List.{enumerate_from}
-use Rattle.plan_lower.specs.Items as spec
+use Rattle.plan_programs.specs.Items as spec
 use Rattle.plan_lower.proofs.items.order_keys.Given as goal
 
 abbrev pub invariant-loop-j : goal.invariant-loop-j

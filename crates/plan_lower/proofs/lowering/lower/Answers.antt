@@ -5,8 +5,8 @@ use Rattle.sql_read.specs.declared.definition.TableDef.{TableDef}
 use Rattle.table_load.specs.Databases.{DatabaseValue}
 use Rattle.expr_steps.specs.Lowered.{Bytes}
 use Rattle.rel_plan.specs.declared.plans.RelPlan.{RelPlan}
-use Rattle.plan_lower.specs.Lowered as spec
-use Rattle.plan_lower.specs.Lowered.{lowered}
+use Rattle.plan_programs.specs.Lowered as spec
+use Rattle.plan_programs.specs.Lowered.{lowered}
 use Rattle.plan_lower.proofs.lowering.lower.Goals as goal
 
 abbrev written : Control → List Bytes → List TableDef → RelPlan → ℕ → List Statement

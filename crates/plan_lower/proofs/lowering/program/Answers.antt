@@ -3,9 +3,9 @@ use Rattle.program_writers.specs.Codes.{Adds}
 use Rattle.program_writers.specs.declared.writer.Writer.{Writer as Text}
 use Rattle.program_writers.specs.Writers.{Writer, ◌>>=◌}
 use Rattle.program_writers.proofs.Writing.{added}
-use Rattle.plan_lower.specs.Rows.{kept}
-use Rattle.plan_lower.specs.Items.{answered}
-use Rattle.plan_lower.specs.Lowered as spec
+use Rattle.plan_programs.specs.Rows.{kept}
+use Rattle.plan_programs.specs.Items.{answered}
+use Rattle.plan_programs.specs.Lowered as spec
 use Rattle.plan_lower.proofs.lowering.program.Goals as goal
 
 -- where memory may run out and nothing is told

@@ -5,9 +5,9 @@ use Rattle.program_writers.specs.declared.writer.Writer.{Writer as Text}
 use Rattle.program_writers.specs.Codes.{Adds}
 use Rattle.program_writers.proofs.Writing.{tells}
 use Rattle.sql_read.specs.declared.definition.TableDef.{TableDef}
-use Rattle.plan_lower.specs.Sites.{Base}
-use Rattle.plan_lower.specs.Lowered as spec
-use Rattle.plan_lower.specs.Rows as rows
+use Rattle.plan_programs.specs.Sites.{Base}
+use Rattle.plan_programs.specs.Lowered as spec
+use Rattle.plan_programs.specs.Rows as rows
 use Rattle.plan_lower.proofs.lowering.table_rows.Goals as goal
 
 -- no such definition

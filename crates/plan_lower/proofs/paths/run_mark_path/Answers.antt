@@ -1,5 +1,0 @@
-use Rattle.plan_lower.proofs.Spelled.{path_run_mark}
-use Rattle.plan_lower.proofs.paths.run_mark_path.Goals as goal
-
-pub of-requires : goal.of-requires
-of-requires c = path_run_mark

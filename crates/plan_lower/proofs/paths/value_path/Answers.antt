@@ -1,5 +1,0 @@
-use Rattle.plan_lower.proofs.Spelled.{path_v}
-use Rattle.plan_lower.proofs.paths.value_path.Goals as goal
-
-pub numbered-requires-clause-path : goal.numbered-requires-clause-path
-numbered-requires-clause-path c = path_v
