@@ -11,7 +11,6 @@
 //! | `run v = Zip(t, r)` | runs it with `Persist(out, v)` behind it, and prints the results' lengths, paths and columns |
 //! | `run` | runs it as it stands |
 //! | `print`, `size` | runs it, and prints the text of the results; how many bytes it has, and the last ones |
-//! | `total 5 - 1` | the total of a column by its own program; `-` is an empty slot |
 //! | `rows /c1/a,b\|c` | rows of fields as text, each behind a `/` |
 //!
 //! A text has the escapes of the crate `case_text`. The program is empty again after each but the first three. A line that
@@ -35,7 +34,6 @@ fn serve(alloc: Global, desk: &mut Desk, line: &str, to: &mut String) -> Result<
         "table" => desk.set_table(alloc, rest),
         "|" => desk.add_line(alloc, rest),
         "before" => desk.keep(alloc),
-        "total" => rows::total(alloc, rest, to),
         "rows" => rows::rows(alloc, rest, to),
         _ => ask(alloc, desk, name, rest, to),
     }

@@ -1,7 +1,7 @@
 //! What became of a case.
 
 use crate::names::type_kind_name;
-use crate::queries::{show_clauses, show_ends, show_sum, show_within};
+use crate::queries::{show_clauses, show_ends, show_within};
 use case_names::sql_kind_name;
 use case_text::{after, before, show_count, spelled};
 use query_read::read_query;
@@ -23,8 +23,6 @@ enum Shown {
     Within,
     /// The least and the greatest that its items can be.
     Ends,
-    /// The column whose sum it is.
-    Sum,
 }
 
 /// Takes the schema of a line that has one in the place of the one before.
@@ -66,7 +64,6 @@ fn show_case(
         b"types" => show_over(out, alloc, schema, Shown::Nothing, text.as_slice()),
         b"within" => show_condition(out, alloc, schema, text.as_slice()),
         b"ends" => show_item(out, alloc, schema, text.as_slice()),
-        b"sum" => show_over(out, alloc, schema, Shown::Sum, text.as_slice()),
         _ => out.push_str("    no case\n"),
     }
 }
@@ -150,7 +147,6 @@ fn show_query(out: &mut String, shown: Shown, q: &TypedQuery) -> Result<(), Allo
         Shown::Nothing => out.push_str("    typed\n"),
         Shown::Within => show_within(out, q),
         Shown::Ends => show_ends(out, q),
-        Shown::Sum => show_sum(out, q),
     }
 }
 

@@ -5,7 +5,6 @@
 //! - `types TEXT`: that the query has types, or its first refusal;
 //! - `within TEXT`: of each part of the condition of `SELECT a FROM t WHERE TEXT` whether it cannot leave 128 bits;
 //! - `ends TEXT`: the least and the greatest that `TEXT` can be in `SELECT TEXT FROM t`, or that it has no such ends within 128 bits;
-//! - `sum TEXT`: the places of the table and the column whose sum a query is, and the name of the answer; or that it is none;
 //! - a line that is empty or begins with `#` is no case.
 //!
 //! Tables, sources, columns, aggregates and items count from 0. A column is `[source.column kind]`, with the width of a text, and the precision and

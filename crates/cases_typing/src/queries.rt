@@ -6,7 +6,7 @@ use case_text::{show_count, show_number};
 use io_edge::Name;
 use std::alloc::AllocError;
 use typed_trees::{Aggregate, OrderKey, PlanSource, TypedExpr, TypedQuery};
-use typed_values::{bounds, cannot_overflow, sum_asked};
+use typed_values::{bounds, cannot_overflow};
 
 fn show_sources(out: &mut String, sources: &[PlanSource]) -> Result<(), AllocError> {
     for source in sources {
@@ -95,21 +95,4 @@ pub fn show_ends(out: &mut String, q: &TypedQuery) -> Result<(), AllocError> {
         show_bounds(out, item)?;
     }
     Ok(())
-}
-
-/// The column whose sum a query is.
-pub fn show_sum(out: &mut String, q: &TypedQuery) -> Result<(), AllocError> {
-    match sum_asked(q) {
-        None => out.push_str("    no sum\n"),
-        Some(asked) => {
-            out.push_str("    table ")?;
-            show_count(out, asked.table as u128)?;
-            out.push_str(" column ")?;
-            show_count(out, asked.column as u128)?;
-            out.push_str(" as ")?;
-            out.push_str(asked.name.text())?;
-            out.push('\n')?;
-            Ok(())
-        }
-    }
 }

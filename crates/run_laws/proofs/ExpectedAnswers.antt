@@ -1,5 +1,5 @@
 -- Each step of a run, and what is expected of the whole, comes to a value or a status that is not want of memory.
-use Rattle.std.proofs.Common.{◌≡◌, ℕ, ◌+◌, List, [], ◌∷◌, Ok, Err, Some, None, refl, length}
+use Rattle.std.proofs.Common.{◌≡◌, ℕ, ◌+◌, Bool, true, false, List, [], ◌∷◌, Ok, Err, Some, None, refl, length}
 use Rattle.std.specs.Prelude.{Option, Result, nat_le, codes}
 use Rattle.std.specs.Str.{bytes_eq}
 use Rattle.control_vectors.specs.declared.Over.{Over}
@@ -22,7 +22,7 @@ use Rattle.table_load.specs.declared.refusal.DataRefusal.TheVariants as loading
 use Rattle.table_load.specs.Values.{Table as TableValue}
 use Rattle.table_load.specs.Tables.{table_of}
 use Rattle.table_load.specs.Databases.{DatabaseValue, database_of}
-use Rattle.typed_values.specs.Sums.{sum_asked}
+use Rattle.answer_texts.specs.Texts.{answer_text}
 use Rattle.programs.specs.declared.op.Statement.{Statement}
 use Rattle.programs.specs.Check.{Fault, check, limit_of}
 use Rattle.programs.specs.Outlines.{Outline, outlines}
@@ -125,10 +125,10 @@ tables_from files schema k (def ∷ defs) =
     reports_then (s.table_in files schema k def) (table_in files schema k def) (λ t.
     reports_then (s.tables_from files schema (k + 1) defs) (tables_from files schema (k + 1) defs) (λ ts. reports_value (t ∷ ts)))
 
-database_in : (files : FileMap) (schema : List ℕ) → Reports (s.database_in files schema)
-database_in files schema =
+tables_in : (files : FileMap) (schema : List ℕ) → Reports (s.tables_in files schema)
+tables_in files schema =
     reports_then (s.catalog_in files schema) (catalog_in files schema) (λ defs.
-    reports_then (s.tables_from files schema 1 defs) (tables_from files schema 1 defs) (λ ts. reports_value (database_of defs ts)))
+    reports_then (s.tables_from files schema 1 defs) (tables_from files schema 1 defs) (λ ts. reports_value (record { defs = defs; tables = ts })))
 
 -- ---- queries
 
@@ -138,10 +138,17 @@ query_over defs bytes = reports_then (s.query_outcome (query_of bytes)) (query_o
 query_in : (files : FileMap) (name : List ℕ) (defs : List TableDef) → Reports (s.query_in files name defs)
 query_in files name defs = reports_then (n.file_in files Text n.query_limit name) (file_in files Text n.query_limit name) (query_over defs)
 
-query_answer : (files : FileMap) (name : List ℕ) (db : DatabaseValue) → Reports (x.query_answer files name db)
-query_answer files name db =
-    reports_then (s.query_in files name db.defs) (query_in files name db.defs) (λ q.
-    reports_then (or_refuse (NotYet Text) (sum_asked q)) (reports_or (NotYet Text) (sum_asked q) (λ e. cc)) (λ a. reports_value (x.asked_text db a)))
+text_outcome_of : (text : Result (List ℕ) Over) → Reports (x.text_outcome text)
+text_outcome_of (Ok text) = reports_value text
+text_outcome_of (Err e) = reports_refusal Overflow (λ e. cc)
+
+one_table_text : (more : Bool) (text : Result (List ℕ) Over) → Reports (x.one_table_text more text)
+one_table_text true text = reports_refusal (NotYet Text) (λ e. cc)
+one_table_text false text = text_outcome_of text
+
+query_answer : (files : FileMap) (name : List ℕ) (loaded : s.LoadedTables) → Reports (x.query_answer files name loaded)
+query_answer files name loaded =
+    reports_then (s.query_in files name loaded.defs) (query_in files name loaded.defs) (λ q. one_table_text (nat_le 2 (length q.sources)) (answer_text loaded.tables q))
 
 -- ---- programs
 
@@ -156,7 +163,7 @@ program_over store bytes = reports_then (s.read_outcome (read_text bytes)) (read
 program_in : (files : FileMap) (name : List ℕ) (db : DatabaseValue) → Reports (s.program_in files name db)
 program_in files name db = reports_then (n.file_in files Text n.program_limit name) (file_in files Text n.program_limit name) (program_over (tables db.store))
 
-program_answer : (files : FileMap) (name : List ℕ) (db : DatabaseValue) → Reports (s.program_in files name db >>= λ program. s.results_outcome (meaning (tables db.store) program) >>= λ named. Ok (results_text named))
+program_answer : (files : FileMap) (name : List ℕ) (db : DatabaseValue) → Reports (x.program_answer files name db)
 program_answer files name db =
     reports_then (s.program_in files name db) (program_in files name db) (λ program.
     let meant = meaning (tables db.store) program in
@@ -165,16 +172,16 @@ program_answer files name db =
 -- ---- the whole
 
 -- the answer in the mode that a word names
-by_word : (files : FileMap) (name word : List ℕ) → Each (λ m. (db : DatabaseValue) → Reports (x.answer_of m files name db)) (mode_of word)
+by_word : (files : FileMap) (name word : List ℕ) → Each (λ m. (loaded : s.LoadedTables) → Reports (x.answer_of m files name loaded)) (mode_of word)
 by_word files name word =
     each_either (bytes_eq word (codes "sql")) (each_some _ (query_answer files name))
-    (each_either (bytes_eq word (codes "algebra")) (each_some _ (program_answer files name)) each_none)
+    (each_either (bytes_eq word (codes "algebra")) (each_some _ (λ loaded. program_answer files name (database_of loaded.defs loaded.tables))) each_none)
 
-by_words : (words : List (List ℕ)) (files : FileMap) → Each (λ request. Reports (s.database_in files request.schema >>= λ db. x.answer_of request.mode files request.text db)) (request_of words)
+by_words : (words : List (List ℕ)) (files : FileMap) → Each (λ request. Reports (s.tables_in files request.schema >>= λ loaded. x.answer_of request.mode files request.text loaded)) (request_of words)
 by_words words files =
     each_either (are_options words)
     (each_map (request_for words) (mode_of (word_at words 4))
-    (each_so (λ m h. reports_then (s.database_in files (word_at words 2)) (database_in files (word_at words 2)) h) (by_word files (word_at words 6) (word_at words 4))))
+    (each_so (λ m h. reports_then (s.tables_in files (word_at words 2)) (tables_in files (word_at words 2)) h) (by_word files (word_at words 6) (word_at words 4))))
     each_none
 
 expected : (words : List (List ℕ)) (files : FileMap) → Reports (x.expected words files)

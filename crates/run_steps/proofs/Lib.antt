@@ -1,4 +1,3 @@
 pub mod Folders
-pub mod NarrowStores
+pub mod LoadedTables
 pub mod TablesLaws
-pub mod Then

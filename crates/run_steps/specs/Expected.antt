@@ -1,55 +1,61 @@
 -- What a run is expected to answer, from the words and the files alone: the first refusal in the order of the steps, or the text.
-use Rattle.std.specs.Prelude.{ℕ, ◌-◌, List, [], ◌∷◌, take, slice_get, Ok, Err}
+use Rattle.std.specs.Prelude.{ℕ, ◌-◌, List, length, nat_le, take, slice_get, Bool, true, false, Result, Ok, Err}
 use Rattle.std.specs.Option.{option_map}
-use Rattle.control_vectors.specs.Slots.{Slot, numbers}
+use Rattle.control_vectors.specs.declared.Over.{Over}
 use Rattle.io_edge.specs.Shelves.{FileMap}
-use Rattle.row_print.specs.Results.{results_text, rows_text, slot_field}
+use Rattle.row_print.specs.Results.{results_text}
 use Rattle.typed_trees.specs.declared.typed.TypedQuery.{TypedQuery}
 use Rattle.sql_read.specs.declared.definition.TableDef.{TableDef}
-use Rattle.table_load.specs.Databases.{DatabaseValue}
-use Rattle.typed_values.specs.Sums.{SumAsked, sum_asked}
+use Rattle.table_load.specs.Databases.{DatabaseValue, database_of}
+use Rattle.table_load.specs.Values.{Table as TableValue}
 use Rattle.voodoo_ops.specs.Meaning.{meaning}
-use Rattle.voodoo_ops.specs.Sums.{total_slot}
 use Rattle.programs.specs.Vectors.{tables}
+use Rattle.answer_texts.specs.Texts.{answer_text}
 use Rattle.run_steps.specs.declared.words.Mode.{Mode}
 use Rattle.run_steps.specs.declared.words.Mode.TheVariants.{Sql, Algebra}
 use Rattle.run_steps.specs.declared.status.FileRole.{FileRole}
 use Rattle.run_steps.specs.declared.status.FileRole.TheVariants.{Schema, Table, Text}
-use Rattle.run_steps.specs.declared.status.Status.TheVariants.{ReadFault, NotYet}
+use Rattle.run_steps.specs.declared.status.Status.TheVariants.{ReadFault, NotYet, Overflow}
 use Rattle.run_steps.specs.Outcomes.{Outcome, or_refuse, ◌>>=◌}
 use Rattle.run_steps.specs.Paths.{table_file}
-use Rattle.run_steps.specs.Steps.{request_in, catalog_in, tables_from, database_in, query_in, asked_slots, program_in, results_outcome}
+use Rattle.run_steps.specs.Steps.{LoadedTables, request_in, catalog_in, tables_from, tables_in, query_in, program_in, results_outcome}
 
 -- ---- the answer
 
--- two rows: the header, and the exact total of the numbers that are there, which is null where none is. At most 2^20 numbers of 64 bits stay
--- within 128 bits
-abbrev pub sum_text : List ℕ → List Slot → List ℕ
-sum_text header slots = rows_text ((header ∷ []) ∷ (slot_field (total_slot (numbers slots)) ∷ []) ∷ [])
+-- a text, or Overflow
+abbrev pub text_outcome : Result (List ℕ) Over → Outcome (List ℕ)
+text_outcome (Ok text) = Ok text
+text_outcome (Err e) = Err Overflow
 
--- the answer to the one question
-abbrev pub asked_text : DatabaseValue → SumAsked → List ℕ
-asked_text db a = sum_text a.name (asked_slots db a.table a.column)
+-- queries over more than one table are not answered yet
+abbrev pub one_table_text : Bool → Result (List ℕ) Over → Outcome (List ℕ)
+one_table_text true text = Err (NotYet Text)
+one_table_text false text = text_outcome text
 
-abbrev pub query_text : DatabaseValue → TypedQuery → Outcome (List ℕ)
-query_text db query = or_refuse (NotYet Text) (sum_asked query) >>= λ a. Ok (asked_text db a)
+-- the answer to a query: the output names, then the answer's rows
+abbrev pub query_text : List TableValue → TypedQuery → Outcome (List ℕ)
+query_text ts q = one_table_text (nat_le 2 (length q.sources)) (answer_text ts q)
 
-abbrev pub query_answer : FileMap → List ℕ → DatabaseValue → Outcome (List ℕ)
-query_answer files text db = query_in files text db.defs >>= query_text db
+abbrev pub query_answer : FileMap → List ℕ → LoadedTables → Outcome (List ℕ)
+query_answer files text loaded = query_in files text loaded.defs >>= query_text loaded.tables
 
-abbrev pub answer_of : Mode → FileMap → List ℕ → DatabaseValue → Outcome (List ℕ)
-answer_of Sql files text db = query_answer files text db
-answer_of Algebra files text db = do
+-- the answer to a program
+abbrev pub program_answer : FileMap → List ℕ → DatabaseValue → Outcome (List ℕ)
+program_answer files text db = do
   program ← program_in files text db
   named ← results_outcome (meaning (tables db.store) program)
   Ok (results_text named)
+
+abbrev pub answer_of : Mode → FileMap → List ℕ → LoadedTables → Outcome (List ℕ)
+answer_of Sql files text loaded = query_answer files text loaded
+answer_of Algebra files text loaded = program_answer files text (database_of loaded.defs loaded.tables)
 
 -- the text, or the status of the first step that refuses
 abbrev pub expected : List (List ℕ) → FileMap → Outcome (List ℕ)
 expected words files = do
   request ← request_in words
-  db ← database_in files request.schema
-  answer_of request.mode files request.text db
+  loaded ← tables_in files request.schema
+  answer_of request.mode files request.text loaded
 
 -- ---- the files that are read
 
@@ -70,7 +76,7 @@ schema_file_read files schema Text = Err (ReadFault Text)
 abbrev pub file_read : List (List ℕ) → FileMap → FileRole → Outcome (List ℕ)
 file_read words files Text = do
   request ← request_in words
-  db ← database_in files request.schema
+  loaded ← tables_in files request.schema
   Ok request.text
 file_read words files role = do
   request ← request_in words

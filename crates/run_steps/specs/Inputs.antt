@@ -3,7 +3,6 @@ use Rattle.std.specs.Prelude.{ℕ, ◌+◌, ◌^◌, ◌⊎◌, ◌≡◌, List,
 use Rattle.io_edge.specs.Faults.{Rose}
 use Rattle.io_edge.specs.Shelves.{FileMap, Lacks}
 use Rattle.run_steps.specs.declared.status.FileRole.{FileRole}
-use Rattle.run_steps.specs.declared.status.FileRole.TheVariants.{Text}
 use Rattle.run_steps.specs.declared.status.LimitWhat.TheVariants.{File}
 use Rattle.run_steps.specs.declared.status.Status.{Status}
 use Rattle.run_steps.specs.declared.status.Status.TheVariants.{Done, Usage, ReadFault, WriteFault, SchemaRefused, DataRefused, QueryRefused, AlgebraRefused, LimitReached, Overflow, NotYet, NoMemory}
@@ -54,12 +53,6 @@ abbrev pub IsDataRefusal : Status → Type 0
 IsDataRefusal (DataRefused table at_record at_column kind) = Unit {0}
 IsDataRefusal NoMemory = Unit {0}
 IsDataRefusal _ = ⊥
-
--- a text that is not read yet, or want of memory
-abbrev pub IsTextRefusal : Status → Type 0
-IsTextRefusal (NotYet Text) = Unit {0}
-IsTextRefusal NoMemory = Unit {0}
-IsTextRefusal _ = ⊥
 
 -- a refusal of the query, or want of memory
 abbrev pub IsQueryRefusal : Status → Type 0

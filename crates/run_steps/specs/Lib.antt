@@ -5,5 +5,5 @@ pub mod Paths
 pub mod Inputs
 pub mod Steps
 pub mod TableFaults
-pub mod Narrow
+pub mod Loaded
 pub mod Expected

@@ -1,7 +1,5 @@
 -- The steps of a run, each a function of the files.
-use Rattle.std.specs.Prelude.{ℕ, ◌+◌, List, [], ◌∷◌, slice_get, slice_index_or, Option, Some, None, Result, Ok, Err}
-use Rattle.std.specs.Option.{option_map}
-use Rattle.control_vectors.specs.Slots.{Slot}
+use Rattle.std.specs.Prelude.{ℕ, ◌+◌, List, [], ◌∷◌, slice_index_or, Option, Some, None, Result, Ok, Err}
 use Rattle.control_vectors.specs.declared.Over.{Over}
 use Rattle.io_edge.specs.Shelves.{FileMap}
 use Rattle.sql_read.specs.declared.definition.TableDef.{TableDef}
@@ -21,11 +19,11 @@ use Rattle.table_load.specs.declared.refusal.DataRefusal.{DataRefusal}
 use Rattle.table_load.specs.declared.refusal.DataRefusal.TheVariants as loading
 use Rattle.table_load.specs.Values.{Table as TableValue}
 use Rattle.table_load.specs.Tables.{table_of}
-use Rattle.table_load.specs.Databases.{DatabaseValue, database_of}
+use Rattle.table_load.specs.Databases.{DatabaseValue}
 use Rattle.programs.specs.declared.op.Statement.{Statement}
 use Rattle.programs.specs.Check.{Fault, check, limit_of}
 use Rattle.programs.specs.Outlines.{Outline, outlines}
-use Rattle.programs.specs.Vectors.{Env, Named, known, slots_of, tables}
+use Rattle.programs.specs.Vectors.{Env, Named, tables}
 use Rattle.voodoo_text.specs.declared.read_text.ReadProgram.{ReadProgram}
 use Rattle.voodoo_text.specs.declared.refusal.TextRefusal.{TextRefusal}
 use Rattle.voodoo_text.specs.declared.refusal.TextRefusal.TheVariants as algebra
@@ -80,12 +78,17 @@ tables_from files schema k (def ∷ defs) = do
   ts ← tables_from files schema (k + 1) defs
   Ok (t ∷ ts)
 
--- the database of the schema's tables
-abbrev pub database_in : FileMap → List ℕ → Outcome DatabaseValue
-database_in files schema = do
+-- the tables of a schema, with their definitions
+pub record LoadedTables : Type 0 where
+  pub defs : List TableDef
+  pub tables : List TableValue
+
+-- those of a schema's file
+abbrev pub tables_in : FileMap → List ℕ → Outcome LoadedTables
+tables_in files schema = do
   defs ← catalog_in files schema
   ts ← tables_from files schema 1 defs
-  Ok (database_of defs ts)
+  Ok (record { defs = defs; tables = ts })
 
 -- ---- the query's file gives what its names mean, or the first refusal of its text, or of its typing
 abbrev pub query_outcome : Result Query SqlRefusal → Outcome Query
@@ -104,29 +107,6 @@ query_over defs bytes = query_outcome (query_of bytes) >>= λ q. typing_outcome 
 
 abbrev pub query_in : FileMap → List ℕ → List TableDef → Outcome TypedQuery
 query_in files name defs = file_in files Text query_limit name >>= query_over defs
-
--- a table's and a column's name, by their places
-abbrev pub Names : Type 0
-Names = List ℕ × List ℕ
-
-abbrev pub names_in : ℕ → Option TableDef → Option Names
-names_in column None = None
-names_in column (Some t) = option_map (λ c. (t.name, c.name)) (slice_get t.columns column)
-
-abbrev pub names_at : List TableDef → ℕ → ℕ → Option Names
-names_at defs table column = names_in column (slice_get defs table)
-
--- the slots of a table's column
-abbrev pub column_slots : DatabaseValue → Names → List Slot
-column_slots db names = slots_of (known (tables db.store names.0)).attributes (46 ∷ names.1)
-
-abbrev pub slots_named : DatabaseValue → Option Names → List Slot
-slots_named db None = []
-slots_named db (Some names) = column_slots db names
-
--- the slots of the column at these places, of which a column that is not defined has none
-abbrev pub asked_slots : DatabaseValue → ℕ → ℕ → List Slot
-asked_slots db table column = slots_named db (names_at db.defs table column)
 
 -- ---- the program's file gives its statements, each with its line, or the first refusal of its text
 abbrev pub read_outcome : Result ReadProgram TextRefusal → Outcome ReadProgram

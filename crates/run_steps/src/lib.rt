@@ -13,7 +13,7 @@ mod words;
 
 pub use line::write_line;
 pub use program_step::{Runnable, read_runnable, results_of};
-pub use query_step::query_answer;
+pub use query_step::read_query_file;
 pub use schema_step::read_catalog;
 pub use status::{AlgebraCause, FileRole, LimitWhat, QueryCause, SchemaCause, Status, UsageKind};
 pub use tables_step::read_tables;

@@ -1,10 +1,11 @@
 //! The step that loads the tables, each from its file.
 
-ghost use Rattle.std.specs.Prelude.{◌≡◌, ◌≤◌, ◌++◌, ◌∷◌, [], IfErr, IfOk, IfSome, OnOk, length, map};
+ghost use Rattle.std.specs.Prelude.{◌≡◌, ◌≤◌, ◌^◌, ◌++◌, ◌∷◌, [], IfErr, IfOk, IfSome, OnOk, length, map};
 ghost use Rattle.sql_types.specs.Catalog.{findings};
 ghost use Rattle.table_load.specs.Tables.{table_of};
-ghost use Rattle.table_load.specs.Databases.{database_of};
+ghost use Rattle.loaded_plans.specs.Laws.{AreLoaded, IsLoaded};
 ghost use Rattle.run_steps.specs.Inputs.{HasFileCause, IsDataRefusal};
+ghost use Rattle.run_steps.specs.Loaded.{AreShort};
 ghost use Rattle.run_steps.specs.Outcomes.{Meets};
 ghost use Rattle.run_steps.specs.Paths as paths;
 ghost use Rattle.run_steps.specs.TableFaults.{HasTablesCause};
@@ -30,6 +31,8 @@ pub fn read_tables<S: Shelf>(
     ensures later { S.faults shelf.old ≤ S.faults shelf.new }
     ensures tables { IfSome (S.holds shelf.old) (λ files. Meets (λ v. v.items) result (tables_from files schema.now 1 defs.now)) }
     ensures degrees { IfOk result (λ v. map (λ t. t.degree) v.items ≡ map (λ d. length d.columns) defs.now) }
+    ensures loaded { IfOk result (λ v. AreLoaded defs.now v.items) }
+    ensures short { IfOk result (λ v. AreShort v.items) }
     ensures cause { IfErr result (HasTablesCause (S.holds shelf.old) schema.now defs.now (S.faults shelf.old) (S.faults shelf.new)) }
 {
     let mut tables = Vec::with_capacity(alloc, defs.len())?;
@@ -63,6 +66,8 @@ fn read_table<S: Shelf>(
     ensures later { S.faults shelf.old ≤ S.faults shelf.new }
     ensures table { IfSome (S.holds shelf.old) (λ files. Meets (λ t. t) result (table_in files schema.now number def.now)) }
     ensures degree { IfOk result (λ t. t.degree ≡ length def.now.columns) }
+    ensures loaded { IfOk result (IsLoaded def.now) }
+    ensures short { IfOk result (λ t. length t.rows ≤ 2 ^ 20) }
     ensures cause { IfErr result (HasFileCause (S.holds shelf.old) (FileRole.Table number) (paths.table_file schema.now def.now.name) (S.faults shelf.old) (S.faults shelf.new)) }
 {
     let file = table_file(alloc, schema, def.name.text())?;
@@ -76,6 +81,8 @@ fn loaded(alloc: Global, number: u32, def: &TableDef, bytes: &[u8]) -> Result<Ra
     requires few { length def.now.columns ≤ 64 }
     ensures table { Meets (λ t. t) result (table_outcome number (table_of def.now bytes.now)) }
     ensures degree { IfOk result (λ t. t.degree ≡ length def.now.columns) }
+    ensures loaded { IfOk result (IsLoaded def.now) }
+    ensures short { IfOk result (λ t. length t.rows ≤ 2 ^ 20) }
     ensures kind { IfErr result IsDataRefusal }
 {
     match load(alloc, def, bytes) {

@@ -1,11 +1,9 @@
 pub mod Intervals
 pub mod Bounds
 pub mod Narrow
-pub mod Sums
 pub mod Values
 pub mod Aggregates
 pub mod Examples
 pub mod ScaleExamples
 pub mod AggregateExamples
 pub mod BoundExamples
-pub mod SumExamples

@@ -2,7 +2,6 @@
 
 ghost use Rattle.typed_values.specs.AggregateExamples.{AggregateTable, RowTable, TextTable};
 ghost use Rattle.typed_values.specs.BoundExamples.{IntervalTable, NarrowTable, ScaledIntervalTable, ScaledNarrowTable};
-ghost use Rattle.typed_values.specs.SumExamples.{AskedTable};
 ghost use Rattle.typed_values.specs.Examples.{AndTable, OrTable, NotTable, ComparisonTable, BetweenTable, InTable, NullTable, ChoiceTable, SumTable, QuotientTable, NegativeTable, WholeTable};
 ghost use Rattle.typed_values.specs.ScaleExamples.{DecimalTable, ScaledBetweenTable, ScaledChoiceTable, ScaledInTable, ScalesTable};
 
@@ -80,9 +79,4 @@ pub fn narrow()
 /// Which expressions over decimals cannot overflow.
 pub fn scaled_narrow()
     ensures { ScaledNarrowTable }
-{}
-
-/// Which queries are the sum of a column.
-pub fn sums_asked()
-    ensures { AskedTable }
 {}

@@ -1,2 +1,3 @@
 pub mod RunEffects
 pub mod AnswerTexts
+pub mod Reads

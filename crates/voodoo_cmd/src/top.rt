@@ -1,23 +1,27 @@
 //! The top call.
 
-ghost use Rattle.std.specs.Prelude.{◌≡◌, ◌≤◌, ◌⊎◌, ◌↔◌, IfErr, IfOk, IfSome, Err, None};
+ghost use Rattle.std.specs.Prelude.{◌≡◌, ◌≤◌, ◌⊎◌, ◌↔◌, IfErr, IfOk, IfSome, Err, List, None};
 ghost use Rattle.std.specs.Io.KnownBytes.{Appends, Keeps};
 ghost use Rattle.io_edge.specs.Faults.{Rose};
 ghost use Rattle.io_edge.specs.Sinks.{AppendsPrefix};
-ghost use Rattle.run_steps.specs.Expected.{expected};
-ghost use Rattle.voodoo_cmd.specs.AnswerTexts.{text_given};
+ghost use Rattle.run_steps.specs.Expected.{expected, program_answer, query_answer};
+ghost use Rattle.table_load.specs.Values.{Table};
+ghost use Rattle.voodoo_cmd.specs.AnswerTexts.{IsPrintable, text_given};
+ghost use Rattle.voodoo_cmd.specs.Reads.{HasTextCause, IsRead, Stops};
 ghost use Rattle.run_steps.specs.Inputs.{IsFileRefusal};
+ghost use Rattle.run_steps.specs.Loaded.{AreTablesOf, HasTables};
 ghost use Rattle.voodoo_cmd.specs.RunEffects.{Answers, IsRefusal, ReadFaultHasCause, SchemaFaultHasCause, MayHaveWritten, Writes};
-ghost use Rattle.run_steps.specs.Narrow.{IsNarrowStore};
 ghost use Rattle.run_steps.specs.Outcomes.{Meets};
 ghost use Rattle.run_steps.specs.Statuses.{status_line};
-ghost use Rattle.run_steps.specs.Steps.{database_in};
+ghost use Rattle.run_steps.specs.Steps.{tables_in};
 ghost use Rattle.run_steps.specs.Words as words_spec;
 
-use io_edge::{Failed, Name, Shelf, Sink, write_all};
+use answer_print::write_answer;
+use io_edge::{Name, Shelf, Sink};
+use query_runs::{QueryRows, query_rows};
 use row_print::{PrintRefusal, write_results};
 use run_steps::{
-    Mode, Status, UsageKind, query_answer, read_catalog, read_runnable, read_tables, request_of,
+    Mode, Status, UsageKind, read_catalog, read_query_file, read_runnable, read_tables, request_of,
     results_of, write_line,
 };
 use sql_types::Catalog;
@@ -28,8 +32,8 @@ use voodoo_ops::Results;
 /// What a run is to write.
 #[derive(Drop)]
 enum Answer {
-    /// A query's rows, as text.
-    Rows(Vec<u8>),
+    /// A query's rows.
+    Rows(QueryRows),
     /// A program's results.
     Results(Results),
 }
@@ -79,6 +83,7 @@ pub fn run<S: Shelf, O: Sink, E: Sink>(
 fn read_answer<S: Shelf>(alloc: Global, words: &[Name], shelf: &mut S) -> Result<Answer, Status>
     ensures text { IfSome (S.holds shelf.old) (λ files. Meets text_given result (expected words.now files)) }
     ensures usage { (result ≡ Err (Status.Usage UsageKind.Words)) ↔ (words_spec.request_of words.now ≡ None) }
+    ensures printable { IfOk result IsPrintable }
     ensures refuses { IfErr result IsRefusal }
     ensures cause { IfErr result (ReadFaultHasCause words.now (S.holds shelf.old) (S.faults shelf.old) (S.faults shelf.new)) }
     ensures same_files { S.holds shelf.new ≡ S.holds shelf.old }
@@ -88,17 +93,51 @@ fn read_answer<S: Shelf>(alloc: Global, words: &[Name], shelf: &mut S) -> Result
         return Err(Status::Usage(UsageKind::Words));
     };
     let loaded = read_database(alloc, shelf, request.schema)?;
-    let db = &loaded.database;
     match request.mode {
-        Mode::Sql => {
-            let text = query_answer(alloc, shelf, request.text, &loaded.catalog, db)?;
-            Ok(Answer::Rows(text))
-        }
-        Mode::Algebra => {
-            let runnable = read_runnable(alloc, shelf, request.text, db)?;
-            Ok(Answer::Results(results_of(alloc, &runnable, db.store())?))
-        }
+        Mode::Sql => query_given(alloc, shelf, request.text, loaded),
+        Mode::Algebra => program_given(alloc, shelf, request.text, &loaded.database),
     }
+}
+
+/// What is to be written of a query.
+fn query_given<S: Shelf>(
+    alloc: Global,
+    shelf: &mut S,
+    text: &str,
+    loaded: Loaded,
+) -> Result<Answer, Status>
+    requires tables { HasTables loaded.database }
+    requires defs { loaded.database.defs ≡ loaded.catalog }
+    ensures text { (ts : List Table) → AreTablesOf loaded.database ts → IfSome (S.holds shelf.old) (λ files.
+        Meets text_given result (query_answer files text.now (record { defs = loaded.database.defs; tables = ts }))) }
+    ensures printable { IfOk result IsPrintable }
+    ensures cause { IfErr result (HasTextCause (S.holds shelf.old) text.now (S.faults shelf.old) (S.faults shelf.new)) }
+    ensures same_files { S.holds shelf.new ≡ S.holds shelf.old }
+    ensures later { S.faults shelf.old ≤ S.faults shelf.new }
+{
+    let query = read_query_file(alloc, shelf, text, &loaded.catalog)?;
+    let Loaded {
+        catalog: _,
+        database,
+    } = loaded;
+    Ok(Answer::Rows(query_rows(alloc, database, query)?))
+}
+
+/// What is to be written of a program.
+fn program_given<S: Shelf>(
+    alloc: Global,
+    shelf: &mut S,
+    text: &str,
+    db: &Database,
+) -> Result<Answer, Status>
+    ensures text { IfSome (S.holds shelf.old) (λ files. Meets text_given result (program_answer files text.now db.now)) }
+    ensures printable { IfOk result IsPrintable }
+    ensures cause { IfErr result (HasTextCause (S.holds shelf.old) text.now (S.faults shelf.old) (S.faults shelf.new)) }
+    ensures same_files { S.holds shelf.new ≡ S.holds shelf.old }
+    ensures later { S.faults shelf.old ≤ S.faults shelf.new }
+{
+    let runnable = read_runnable(alloc, shelf, text, db)?;
+    Ok(Answer::Results(results_of(alloc, &runnable, db.store())?))
 }
 
 /// The schema's catalog, and the database of its tables.
@@ -112,9 +151,9 @@ struct Loaded {
 fn read_database<S: Shelf>(alloc: Global, shelf: &mut S, schema: &str) -> Result<Loaded, Status>
     ensures same_files { S.holds shelf.new ≡ S.holds shelf.old }
     ensures later { S.faults shelf.old ≤ S.faults shelf.new }
-    ensures database { IfSome (S.holds shelf.old) (λ files. Meets (λ l. l.database) result (database_in files schema.now)) }
+    ensures tables { IfOk result (λ l. IsRead (S.holds shelf.old) schema.now l.database) }
     ensures defs { IfOk result (λ l. l.database.defs ≡ l.catalog) }
-    ensures narrow { IfOk result (λ l. IsNarrowStore l.database.store) }
+    ensures stops { IfErr result (λ status. IfSome (S.holds shelf.old) (λ files. Stops status (tables_in files schema.now))) }
     ensures refuses { IfErr result IsFileRefusal }
     ensures cause { IfErr result (SchemaFaultHasCause (S.holds shelf.old) schema.now (S.faults shelf.old) (S.faults shelf.new)) }
 {
@@ -130,15 +169,19 @@ fn read_database<S: Shelf>(alloc: Global, shelf: &mut S, schema: &str) -> Result
 
 /// Writes the whole answer.
 fn written<O: Sink>(alloc: Global, out: &mut O, given: &Answer) -> Status
+    requires { IsPrintable given.now }
     ensures writes { Writes (text_given given.now) result (O.written out.old) (O.written out.new) }
     ensures cause { result ≡ Status.WriteFault → Rose (O.faults out.old) (O.faults out.new) }
     ensures later { O.faults out.old ≤ O.faults out.new }
 {
     match given {
-        Answer::Rows(text) => match write_all(out, text.as_slice()) {
-            Ok(()) => Status::Done,
-            Err(Failed) => Status::WriteFault,
-        },
+        Answer::Rows(rows) => {
+            match write_answer(alloc, &rows.database, &rows.query, &rows.results, out) {
+                Ok(()) => Status::Done,
+                Err(PrintRefusal::WriteFault) => Status::WriteFault,
+                Err(PrintRefusal::NoMemory) => Status::NoMemory,
+            }
+        }
         Answer::Results(results) => match write_results(alloc, results, out) {
             Ok(()) => Status::Done,
             Err(PrintRefusal::WriteFault) => Status::WriteFault,

@@ -17,8 +17,6 @@ pub mod Making
 pub mod HandedOn
 pub mod Outlined
 pub mod Compositions
-pub mod ColumnSum
-pub mod Literals
 pub mod Sorted
 pub mod SameEffects
 pub mod Settled

@@ -11,7 +11,6 @@ pub mod Reading
 pub mod Fits
 pub mod Stops
 pub mod Laws
-pub mod Sums
 pub mod Sorting
 pub mod Streams
 pub mod Later

@@ -25,7 +25,6 @@ mod run_marks;
 mod single;
 mod slotwise;
 mod sorting;
-pub mod sums;
 mod zip;
 
 pub use results::Results;

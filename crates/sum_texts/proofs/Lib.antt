@@ -1,8 +1,0 @@
-mod Schemas
-mod Stores
-mod Loaded
-mod Totals
-mod Asked
-mod Answers
-mod Sources
-mod Sums
