@@ -1,0 +1,1 @@
+CREATE TABLE visits (visitor VARCHAR(10) NOT NULL, seen DATE);

@@ -1,0 +1,1 @@
+SELECT g, COUNT(*) AS n, COUNT(a) AS k, SUM(a) AS s FROM n GROUP BY g

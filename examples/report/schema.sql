@@ -1,0 +1,9 @@
+CREATE TABLE lines (
+  id INTEGER NOT NULL PRIMARY KEY,
+  flag CHAR(1) NOT NULL,
+  status CHAR(1) NOT NULL,
+  qty INTEGER NOT NULL,
+  price INTEGER NOT NULL,
+  pct INTEGER NOT NULL,
+  shipped DATE NOT NULL
+);
