@@ -1,13 +1,15 @@
 -- Slots that are listed place by place.
-use Rattle.std.proofs.Common.{◌≡◌, ℕ, zero, suc, ◌+◌, ◌<◌, ◌≤◌, Bool, true, false, List, [], ◌∷◌, ◌++◌, length, take, map, get_or, refl, sym, ap, ◌∙◌, append_assoc, arith, Some, None, Result, Ok, Err, if◌then◌else◌}
+use Rattle.std.proofs.Common.{◌≡◌, ℕ, ℤ, zero, suc, ◌+◌, ◌<◌, ◌≤◌, Bool, true, false, not, List, [], ◌∷◌, ◌++◌, length, set, take, map, get_or, refl, sym, ap, ◌∙◌, append_assoc, arith, Some, None, Result, Ok, Err, if◌then◌else◌}
 use Rattle.std.specs.Prelude.{slice_get}
 use Rattle.std.specs.List.{range_with_len}
-use Rattle.std.proofs.lemmas.List.{take_all, map-append, length-map, get_or-map}
+use Rattle.std.proofs.lemmas.List.{take_all, take_more_set, map-append, length-map, length-take-le, get_or-map}
 use Rattle.std.proofs.lemmas.List.FromFn.{get_or-map-range_with_len, length-map-range_with_len, map-range_with_len_more, fill_by_all}
 use Rattle.std.proofs.lemmas.Option.{slice_get-get_or}
 use Rattle.control_vectors.specs.Slots.{Slot, Cell, over, cells_of, has_over, slots_in, all_slots}
 use Rattle.control_vectors.specs.declared.Over.{Over}
 use Rattle.control_vectors.proofs.SlotLaws.{all_slots-cells_of}
+use Rattle.struct_vectors.specs.Columns.{marked_slot, marked_slots}
+use Rattle.struct_vectors.proofs.MakerLaws.{marked_slots_more}
 use Rattle.slot_columns.specs.Cells.{CellAt}
 
 pub take_get : {A : Type 0} (xs : List A) (i : ℕ) (x : A) → slice_get xs i ≡ Some x → take (i + 1) xs ≡ take i xs ++ x ∷ []
@@ -74,14 +76,42 @@ mapped_over cell n i e h at = listed_over (map cell (range_with_len 0 n)) i e (c
 pub mapped_all : (cell : ℕ → Cell) (slots : List Slot) (n i : ℕ) → i ≡ n → cells_of slots ≡ map cell (range_with_len 0 i) → all_slots (map cell (range_with_len 0 n)) ≡ Ok slots
 mapped_all cell slots n i same e = ap (λ k. all_slots (map cell (range_with_len 0 k))) (sym same) ∙ ap all_slots (sym e) ∙ all_slots-cells_of slots
 
-pub slots_more : (slot : ℕ → Slot) (slots more : List Slot) (i : ℕ) (s : Slot) → more ≡ slots ++ s ∷ [] → slots ≡ map slot (range_with_len 0 i) → s ≡ slot i → more ≡ map slot (range_with_len 0 (i + 1))
-slots_more slot slots more i s m e at =
-    m ∙ ap (λ (l : List Slot). l ++ s ∷ []) e ∙ ap (λ (t : Slot). map slot (range_with_len 0 i) ++ t ∷ []) at ∙ sym (map-range_with_len_more slot 0 i i (omega arith))
+listed_cells : (slot : ℕ → Slot) (places : List ℕ) → map (λ i. Ok (slot i)) places ≡ cells_of (map slot places)
+listed_cells slot [] = refl
+listed_cells slot (i ∷ places) = ap (λ (l : List Cell). Ok (slot i) ∷ l) (listed_cells slot places)
 
-pub slots_all : (slot : ℕ → Slot) (slots : List Slot) (n i : ℕ) → i ≡ n → slots ≡ map slot (range_with_len 0 i) → slots ≡ map slot (range_with_len 0 n)
-slots_all slot slots n i same e = e ∙ ap (λ k. map slot (range_with_len 0 k)) same
+-- where no cell is Over, the column's slots are those listed
+pub listed_slots : (slot : ℕ → Slot) (slots : List Slot) (n : ℕ) → all_slots (map (λ i. Ok (slot i)) (range_with_len 0 n)) ≡ Ok slots → slots ≡ map slot (range_with_len 0 n)
+listed_slots slot slots n e =
+    let both : ◌≡◌ {A = Result (List Slot) Over} (Ok (map slot (range_with_len 0 n))) (Ok slots) = sym (all_slots-cells_of (map slot (range_with_len 0 n))) ∙ ap all_slots (sym (listed_cells slot (range_with_len 0 n))) ∙ e in cc
 
 -- a function of each element, place by place
 pub map_by_place : {A B : Type 0} (f : A → B) (xs : List A) (d : A) → map f xs ≡ map (λ i. f (get_or xs i d)) (range_with_len 0 (length xs))
 map_by_place f xs d =
     fill_by_all (λ i. f (get_or xs i d)) (map f xs) (length xs) (f d) (length-map xs f) (λ k h. get_or-map f xs k d (f d) h)
+
+-- ---- slots that are filled in place
+
+marked_set : (numbers : List ℤ) (marks : List Bool) (i : ℕ) (x : ℤ) (m : Bool) → length marks ≡ length numbers → i < length numbers → marked_slots (take (i + 1) (set numbers i x)) (take (i + 1) (set marks i m)) ≡ marked_slots (take i numbers) (take i marks) ++ marked_slot x m ∷ []
+marked_set numbers marks i x m e h =
+    let lengths : length (take i marks) ≡ length (take i numbers) = length-take-le i marks (omega (arith, e, h)) ∙ sym (length-take-le i numbers (omega (arith, h))) in
+    rw (take_more_set numbers i x h, take_more_set marks i m (omega (arith, e, h))) (marked_slots_more (take i numbers) (take i marks) x m lengths)
+
+pub filled_more : (cell : ℕ → Cell) (numbers : List ℤ) (marks : List Bool) (i : ℕ) (x : ℤ) (m : Bool) (s : Slot) → length marks ≡ length numbers → i < length numbers → marked_slot x m ≡ s
+    → cells_of (marked_slots (take i numbers) (take i marks)) ≡ map cell (range_with_len 0 i) → Ok s ≡ cell i
+    → cells_of (marked_slots (take (i + 1) (set numbers i x)) (take (i + 1) (set marks i m))) ≡ map cell (range_with_len 0 (i + 1))
+filled_more cell numbers marks i x m s e h is so_far at =
+    mapped_more cell (marked_slots (take i numbers) (take i marks)) _ i s (marked_set numbers marks i x m e h ∙ ap (λ (t : Slot). marked_slots (take i numbers) (take i marks) ++ t ∷ []) is) so_far at
+
+pub filled_all : (cell : ℕ → Cell) (numbers : List ℤ) (marks : List Bool) (n i : ℕ) → length marks ≡ length numbers → length numbers ≤ i → i ≡ n
+    → cells_of (marked_slots (take i numbers) (take i marks)) ≡ map cell (range_with_len 0 i) → all_slots (map cell (range_with_len 0 n)) ≡ Ok (marked_slots numbers marks)
+filled_all cell numbers marks n i e h same so_far =
+    mapped_all cell (marked_slots numbers marks) n i same
+    (ap (λ (xs : List ℤ). cells_of (marked_slots xs marks)) (sym (take_all i numbers h)) ∙ ap (λ (ms : List Bool). cells_of (marked_slots (take i numbers) ms)) (sym (take_all i marks (omega (arith, e, h)))) ∙ so_far)
+
+-- a number and its mark where they stand
+pub marked_read : (xs : List ℤ) (marks : List Bool) (i : ℕ) (d : ℤ) (e : Bool) → i < length xs → length marks ≡ length xs → get_or (marked_slots xs marks) i None ≡ marked_slot (get_or xs i d) (get_or marks i e)
+marked_read [] marks i d e h l = absurd (omega arith)
+marked_read (x ∷ xs) [] i d e h l = absurd (omega arith)
+marked_read (x ∷ xs) (m ∷ marks) zero d e h l = refl
+marked_read (x ∷ xs) (m ∷ marks) (suc i) d e h l = marked_read xs marks i d e (omega arith) (omega arith)

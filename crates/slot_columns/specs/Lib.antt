@@ -1,3 +1,4 @@
 pub mod Cells
 pub mod Builders
 pub mod Stops
+pub mod Readers

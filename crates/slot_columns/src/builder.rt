@@ -47,6 +47,7 @@ impl ColumnBuilder {
 
     /// Appends a slot. It takes memory at most once in a builder's life. Where there is none, the
     /// builder stays as it was.
+    #[inline]
     pub fn push(&mut self, s: Slot) -> Result<(), NoMemory>
         requires { length self.old.slots < self.old.room }
         ensures pushed { OnOk result (self.new ≡ record self.old { slots = self.old.slots ++ s ∷ [] }) }
@@ -94,6 +95,7 @@ fn push_all(maker: &mut ColumnMaker, column: &Column)
 }
 
 /// Whether a maker may keep a slot: it is wide, or the slot is empty, or its number fits 64 bits.
+#[inline]
 fn may_keep(wide: bool, s: Slot) -> bool
     ensures { result ≡ true → MayKeep wide s }
 {

@@ -6,10 +6,13 @@ use std::alloc::AllocError;
 
 pub mod builder;
 pub mod listed;
+mod narrow;
+pub mod reading;
 pub mod stop;
 
 pub use builder::ColumnBuilder;
 pub use listed::{column_of, slots_column, slots_of};
+pub use reading::{Always, Any, Marked, Narrow, SlotReader};
 pub use stop::Stop;
 
 /// Memory ran out: the one refusal of a call that only allocates.

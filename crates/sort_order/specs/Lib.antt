@@ -1,5 +1,6 @@
 pub mod Keys
 pub mod Orders
+pub mod Keyed
 pub mod Buckets
 pub mod Pairs
 pub mod Answers

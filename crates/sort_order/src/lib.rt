@@ -12,6 +12,7 @@ ghost use Rattle.control_vectors.specs.Slots.{Cell};
 use control_vectors::{Over, Slot};
 use std::alloc::AllocError;
 
+mod keyed;
 pub mod laws;
 pub mod ordering;
 pub mod partition;

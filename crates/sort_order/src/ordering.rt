@@ -1,11 +1,12 @@
 //! Order: the marked places by their keys.
-ghost use Rattle.std.specs.Prelude.{◌≡◌, ◌++◌, ◌<◌, ◌≤◌, ◌^◌, false, length, map, OnOk, IfOk, slice_index_or};
+ghost use Rattle.std.specs.Prelude.{◌≡◌, ◌++◌, ◌<◌, ◌≤◌, ◌^◌, false, drop, length, map, OnOk, IfOk, slice_index_or};
 ghost use Rattle.std.specs.List.{list_any};
 ghost use Rattle.control_vectors.specs.Slots.{has_over, slots_in};
 ghost use Rattle.sort_order.specs.Answers.{Clear, Marks, Sorts};
 ghost use Rattle.sort_order.specs.Keys.{key_of, no_key};
 ghost use Rattle.sort_order.specs.Orders.{comes_before, directed, keys_cmp, one_place, ordered_cells, padded, slot_at, sorted_by};
 
+use crate::keyed::sorted_by_first;
 use crate::{KeySource, NoMemory, OrderRefusal};
 use control_vectors::{Over, Slot, SlotSource};
 use std::alloc::Global;
@@ -104,27 +105,44 @@ fn places_in_order<K: KeySource>(
     ensures { IfOk result (λ slots. slots.items
         ≡ padded n (sorted_by (comes_before (map key_of (K.keys keys.now))) places.items)) }
 {
-    let sorted = sorted_places(keys, places)?;
+    let sorted = sorted_places(alloc, keys, places)?;
     padded_slots(alloc, sorted.as_slice(), n)
 }
 
 /// The places sorted by their keys; ties keep their order.
-fn sorted_places<K: KeySource>(keys: &K, places: Vec<u32>) -> Result<Vec<u32>, NoMemory>
+fn sorted_places<K: KeySource>(
+    alloc: Global,
+    keys: &K,
+    places: Vec<u32>,
+) -> Result<Vec<u32>, NoMemory>
+    requires { list_any (λ key. has_over key.cells) (K.keys keys.now) ≡ false }
+    ensures { IfOk result (λ sorted. sorted.items
+        ≡ sorted_by (comes_before (map key_of (K.keys keys.now))) places.items) }
+{
+    match sorted_by_first(alloc, keys, places.as_slice())? {
+        Some(sorted) => Ok(sorted),
+        None => sorted_by_all(keys, places),
+    }
+}
+
+/// The same, with each key asked for at each comparison.
+fn sorted_by_all<K: KeySource>(keys: &K, places: Vec<u32>) -> Result<Vec<u32>, NoMemory>
     requires { list_any (λ key. has_over key.cells) (K.keys keys.now) ≡ false }
     ensures { IfOk result (λ sorted. sorted.items
         ≡ sorted_by (comes_before (map key_of (K.keys keys.now))) places.items) }
 {
     let mut sorted = places;
-    sorted.sort_by(|i, j| compare(keys, *i, *j))?;
+    sorted.sort_by(|i, j| compare_from(keys, 0, *i, *j))?;
     Ok(sorted)
 }
 
-/// Two places by their keys: the first key that tells them apart decides.
-fn compare<K: KeySource>(keys: &K, i: u32, j: u32) -> Ordering
-    requires { list_any (λ key. has_over key.cells) (K.keys keys.now) ≡ false }
-    ensures { result ≡ keys_cmp (map key_of (K.keys keys.now)) i j }
+/// Two places by the keys from one on: the first key that tells them apart decides.
+pub(crate) fn compare_from<K: KeySource>(keys: &K, from: u32, i: u32, j: u32) -> Ordering
+    requires clear { list_any (λ key. has_over key.cells) (K.keys keys.now) ≡ false }
+    requires within { from ≤ length (K.keys keys.now) }
+    ensures { result ≡ keys_cmp (drop from (map key_of (K.keys keys.now))) i j }
 {
-    for k in 0..keys.count() {
+    for k in from..keys.count() {
         let by_key = compare_by(keys, k, i, j);
         if by_key != Ordering::Equal {
             return by_key;
@@ -150,7 +168,7 @@ fn compare_by<K: KeySource>(keys: &K, k: u32, i: u32, j: u32) -> Ordering
 }
 
 /// What a key has at a place: empty past the end.
-fn key_slot<K: KeySource>(keys: &K, k: u32, i: u32) -> Slot
+pub(crate) fn key_slot<K: KeySource>(keys: &K, k: u32, i: u32) -> Slot
     requires key { k < length (K.keys keys.now) }
     requires clear { list_any (λ key. has_over key.cells) (K.keys keys.now) ≡ false }
     ensures { result ≡ slot_at (slots_in (slice_index_or (K.keys keys.now) k no_key).cells) i }

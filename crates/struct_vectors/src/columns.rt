@@ -90,6 +90,7 @@ impl Column {
     }
 
     /// How many slots there are.
+    #[inline]
     pub fn len(&self) -> u32
         ensures len { result ≡ length self.now.slots }
         ensures bounded { length self.now.slots ≤ 2 ^ 22 }
@@ -98,6 +99,7 @@ impl Column {
     }
 
     /// The slot at place `i`.
+    #[inline]
     pub fn get(&self, i: u32) -> Slot
         requires { i < length self.now.slots }
         ensures slot { slice_get self.now.slots i ≡ Some result }
@@ -114,6 +116,20 @@ impl Column {
     {
         match &self.form {
             Form::Narrow(numbers) => Some(numbers.as_slice()),
+            _ => None,
+        }
+    }
+
+    /// The numbers and their marks, where they are kept in 64 bits and some slot may be empty.
+    pub fn marked_slices(&self) -> Option<(&[i64], &[bool])>
+        ensures { MatchOption result (self.now.form ≢ narrow_with_empties)
+            (λ pair. (self.now.form ≡ narrow_with_empties) × (self.now.slots ≡ marked_slots pair.0.now pair.1.now)
+            × (length pair.1.now ≡ length pair.0.now) × (length pair.0.now ≤ 2 ^ 22)) }
+    {
+        match &self.form {
+            Form::NarrowWithEmpties(numbers, marks) => {
+                Some((numbers.as_slice(), marks.as_slice()))
+            }
             _ => None,
         }
     }

@@ -22,6 +22,7 @@ pub enum Form {
 
 impl Form {
     /// How many slots there are.
+    #[inline]
     pub fn len(&self) -> u32
         requires { IsWhole self.now }
         ensures { result ≡ length (value_of self.now).slots }
@@ -36,6 +37,7 @@ impl Form {
     }
 
     /// The slot at place `i`.
+    #[inline]
     pub fn slot(&self, i: u32) -> Slot
         requires whole { IsWhole self.now }
         requires within { i < length (value_of self.now).slots }
@@ -94,6 +96,7 @@ impl Form {
 }
 
 /// The slot of a number.
+#[inline]
 fn narrow_slot(numbers: &Vec<i64>, i: u32) -> Slot
     requires { i < length numbers.now.items }
     ensures slot { slice_get (some_slots numbers.now.items) i ≡ Some result }
@@ -103,6 +106,7 @@ fn narrow_slot(numbers: &Vec<i64>, i: u32) -> Slot
 }
 
 /// The slot of a number with its mark.
+#[inline]
 fn marked_narrow_slot(numbers: &Vec<i64>, marks: &Vec<bool>, i: u32) -> Slot
     requires lengths { length marks.now.items ≡ length numbers.now.items }
     requires within { i < length numbers.now.items }
@@ -138,6 +142,7 @@ fn control_slot(v: ControlVector, n: u32, i: u32) -> Slot
 }
 
 /// A number with its mark as a slot.
+#[inline]
 fn marked(number: i128, mark: bool) -> Slot
     ensures { result ≡ marked_slot number mark }
 {

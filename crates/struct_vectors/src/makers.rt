@@ -19,6 +19,7 @@ pub enum Numbers {
 
 impl Numbers {
     /// Appends a number. It takes no memory.
+    #[inline]
     fn push(&mut self, x: i128)
         requires room { length (numbers_in self.old) < capacity_of self.old }
         requires fits { MayHold (is_wide self.old) x }
@@ -38,6 +39,7 @@ impl Numbers {
 }
 
 /// Appends a mark. It takes no memory.
+#[inline]
 fn push_mark(marks: &mut Vec<bool>, mark: bool)
     requires { vec_len marks.old < vec_capacity marks.old }
     ensures marks { marks.new.items ≡ marks.old.items ++ mark ∷ [] }
@@ -89,6 +91,7 @@ impl ColumnMaker {
     }
 
     /// Appends a slot. It takes no memory.
+    #[inline]
     pub fn push(&mut self, s: Slot)
         requires room { length self.old.slots < self.old.room }
         requires fits { MayKeep self.old.wide s }

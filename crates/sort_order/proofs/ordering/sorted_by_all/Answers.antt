@@ -5,7 +5,7 @@ use Rattle.sort_order.specs.Keys.{key_of}
 use Rattle.sort_order.specs.Orders.{comes_before}
 use Rattle.sort_order.proofs.KeyOrders.{comes_before_order}
 use Rattle.sort_order.proofs.StableSorts.{stable_sort}
-use Rattle.sort_order.proofs.ordering.sorted_places.Goals as goal
+use Rattle.sort_order.proofs.ordering.sorted_by_all.Goals as goal
 
 pub returns : goal.returns
 returns g c =

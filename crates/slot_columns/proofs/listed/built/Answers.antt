@@ -3,7 +3,7 @@ use Rattle.std.proofs.lemmas.Result.{err_from_is_err_and}
 use Rattle.control_vectors.specs.Slots.{Slot}
 use Rattle.slot_columns.specs.Builders.{BuilderValue}
 use Rattle.slot_columns.proofs.Listings.{length_pushed, mapped_more, mapped_over, mapped_all}
-use Rattle.slot_columns.proofs.listed.column_of.Goals as goal
+use Rattle.slot_columns.proofs.listed.built.Goals as goal
 
 pub returns-in_err-f : goal.returns-in_err-f
 returns-in_err-f g c = λ cell gives.

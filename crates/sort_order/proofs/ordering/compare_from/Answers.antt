@@ -4,7 +4,7 @@ use Rattle.std.specs.declared.cmp.Ordering.{Ordering}
 use Rattle.sort_order.specs.Keys.{key_of}
 use Rattle.sort_order.specs.Orders.{keys_cmp}
 use Rattle.sort_order.proofs.CellLaws.{keys_from, then_tells, then_equal, tells, tells_not}
-use Rattle.sort_order.proofs.ordering.compare.Goals as goal
+use Rattle.sort_order.proofs.ordering.compare_from.Goals as goal
 
 pub returns-then-ne : goal.returns-then-ne
 returns-then-ne g c =

@@ -1,7 +1,7 @@
 use Rattle.std.proofs.Common.{◌≡◌, ◌<◌, ℕ, map, length}
 use Rattle.std.specs.List.{range_with_len}
 use Rattle.control_vectors.specs.Slots.{Cell, cells_of}
-use Rattle.slot_columns.proofs.listed.column_of.Given as goal
+use Rattle.slot_columns.proofs.listed.built.Given as goal
 
 abbrev pub invariant-loop-i : goal.invariant-loop-i
 invariant-loop-i g l = record {
