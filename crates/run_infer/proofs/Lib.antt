@@ -1,0 +1,4 @@
+pub mod Divisions
+pub mod MarkLaws
+pub mod InferLaws
+pub mod TupleLaws

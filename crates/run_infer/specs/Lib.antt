@@ -1,0 +1,4 @@
+pub mod Marks
+pub mod Inferred
+pub mod Tuples
+pub mod Examples
