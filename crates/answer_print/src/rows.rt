@@ -88,7 +88,7 @@ fn piece_text(
     let mut text = Vec::new(alloc);
     for i in from..from + count {
         fill_row(dictionary, items, i, &mut text, &mut row)?;
-        rows = rows.push(&row)?;
+        rows.add(&row)?;
     }
     rows.into_text()
 }

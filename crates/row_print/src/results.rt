@@ -157,7 +157,7 @@ fn piece_text(alloc: Global, columns: &[Column], from: u32, count: u32) -> Resul
     let mut row = ByteRecord::new(alloc);
     for i in from..from + count {
         fill_row(columns, i, &mut row)?;
-        text = text.push(&row)?;
+        text.add(&row)?;
     }
     text.into_text()
 }

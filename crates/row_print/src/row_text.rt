@@ -1,8 +1,9 @@
 //! Rows in the making, as text.
 
-ghost use Rattle.std.specs.Prelude.{◌≡◌, ◌++◌, [], IfOk};
+ghost use Rattle.std.specs.Prelude.{◌≡◌, ◌++◌, [], IfOk, OnErr, OnOk};
 ghost use Rattle.csv.specs.Records.{fields_of};
-ghost use Rattle.csv.specs.Writing.{default_writer, row_text};
+ghost use Rattle.csv.specs.Writing.{default_writer, row_text, writer_pending, writer_under};
+ghost use Rattle.row_print.specs.Writers.{IsBetweenRows};
 
 use crate::NoMemory;
 use csv::{ByteRecord, Writer, WriterBuilder};
@@ -12,6 +13,7 @@ use std::marker::Model;
 /// The text of the rows so far. Rows may differ in their number of fields.
 #[derive(Drop)]
 pub struct RowText {
+    alloc: Global,
     writer: Writer<Vec<u8>>,
 }
 
@@ -32,32 +34,52 @@ impl RowText {
     pub fn new(alloc: Global) -> RowText
         ensures { result ≡ [] }
     {
-        let writer = WriterBuilder::new()
-            .flexible(true)
-            .from_writer(Vec::new(alloc));
-        RowText { writer }
+        RowText {
+            alloc,
+            writer: no_rows(alloc),
+        }
+    }
+
+    /// Adds a row in place: the writer is large, so a loop over rows lends it. Where memory runs out, no rows are left.
+    pub fn add(&mut self, row: &ByteRecord) -> Result<(), NoMemory>
+        ensures added { OnOk result (self.new ≡ self.old ++ row_text default_writer (fields_of row.now)) }
+        ensures dropped { OnErr result (self.new ≡ []) }
+    {
+        // Over a vector, and with rows of any length, writing fails for want of memory alone.
+        if self.writer.write_byte_record(row).is_err() {
+            self.writer = no_rows(self.alloc);
+            return Err(AllocError);
+        }
+        Ok(())
     }
 
     /// The text with one row more. A row that memory runs out over leaves no text.
     pub fn push(self, row: &ByteRecord) -> Result<RowText, NoMemory>
         ensures { IfOk result (λ text. text ≡ self ++ row_text default_writer (fields_of row.now)) }
     {
-        let RowText { mut writer } = self;
-        // Over a vector, and with rows of any length, writing fails for want of memory alone.
-        if writer.write_byte_record(row).is_err() {
-            return Err(AllocError);
-        }
-        Ok(RowText { writer })
+        let mut text = self;
+        text.add(row)?;
+        Ok(text)
     }
 
     /// The text.
     pub fn into_text(self) -> Result<Vec<u8>, NoMemory>
         ensures { IfOk result (λ text. text.items ≡ self) }
     {
-        let RowText { writer } = self;
+        let RowText { alloc: _, writer } = self;
         match writer.into_inner() {
             Ok(text) => Ok(text),
             Err(_) => Err(AllocError),
         }
     }
+}
+
+/// A writer of rows of any length that has written none.
+fn no_rows(alloc: Global) -> Writer<Vec<u8>>
+    ensures between { IsBetweenRows result }
+    ensures empty { (writer_under result).items ++ writer_pending result ≡ [] }
+{
+    WriterBuilder::new()
+        .flexible(true)
+        .from_writer(Vec::new(alloc))
 }
