@@ -1,0 +1,4 @@
+pub mod Listed
+pub mod Composing
+pub mod Outlined
+pub mod Leading
