@@ -1,0 +1,9 @@
+pub mod Columns
+pub mod Runs
+pub mod Chains
+pub mod Flows
+pub mod Groups
+pub mod Queries
+pub mod Obeyed
+pub mod Programs
+pub mod Examples
