@@ -1,16 +1,18 @@
 #!/usr/bin/env python3
 """Times voodoo beside other tools on the same files, and prints a table.
 
-    bench/bench.py [--rounds N] [--rows N,N,..]
+    bench/bench.py [--rounds N] [--rows N,N,..] [--only "WORKLOAD;.."]
 
-It makes tables of whole numbers, and tables of four columns, in a folder of its own, asks each tool for the sum of a
-column from cold start to the printed answer, and checks that the answers agree. The rounds are interleaved: each round
-runs every tool once. A time is the median of the rounds, and a peak is the greatest resident memory of any round; one of some 16 MB says
+Each workload is a query over one table that the script makes in a folder of its own. Each tool runs it from cold start to the
+printed answer, reading the CSV file too: sqlite3 imports it into a database in memory. The answers are compared. The rounds are
+interleaved: each round runs every tool once. A time is the median of the rounds: seconds of the processor, which other work on
+the machine changes least, and seconds of the clock. A peak is the greatest resident memory of any round; one of some 16 MB says
 only that there was no more. Tools that are not installed are left out.
 """
 
 import argparse
 import datetime
+import hashlib
 import os
 import platform
 import shutil
@@ -19,6 +21,7 @@ import subprocess
 import sys
 import tempfile
 import time
+from dataclasses import dataclass
 
 TOP = os.path.dirname(os.path.dirname(os.path.abspath(__file__)))
 PROGRAM = os.path.join(TOP, "crates", "voodoo", "out", "voodoo")
@@ -27,13 +30,50 @@ SCHEMAS = {
     "t": "CREATE TABLE t (a INTEGER NOT NULL);\n",
     "made": "CREATE TABLE made (id INTEGER NOT NULL PRIMARY KEY, kind VARCHAR(5) NOT NULL, "
     "shipped DATE NOT NULL, amount INTEGER NOT NULL);\n",
+    "lines": "CREATE TABLE lines (id INTEGER NOT NULL PRIMARY KEY, kind VARCHAR(5) NOT NULL, part INTEGER NOT NULL, "
+    "shipped DATE NOT NULL, quantity INTEGER NOT NULL, price INTEGER NOT NULL, discount INTEGER NOT NULL, tax INTEGER NOT NULL);\n",
 }
-COLUMNS = {"t": "a", "made": "amount"}
 SQLITE_COLUMNS = {
     "t": "a INTEGER NOT NULL",
     "made": "id INTEGER PRIMARY KEY, kind TEXT, shipped TEXT, amount INTEGER",
+    "lines": "id INTEGER PRIMARY KEY, kind TEXT, part INTEGER, shipped TEXT, quantity INTEGER, price INTEGER, discount INTEGER, tax INTEGER",
 }
 KINDS = ("AIR", "RAIL", "SHIP", "TRUCK")
+
+
+@dataclass
+class Workload:
+    """A query over a table; where it is the sum of one column, the column's name and its number from 1."""
+
+    table: str
+    query: str
+    column: tuple = ()
+
+
+WORKLOADS = {
+    "sum of t": Workload("t", "SELECT SUM(a) AS total FROM t", ("a", 1)),
+    "sum of made": Workload("made", "SELECT SUM(amount) AS total FROM made", ("amount", 4)),
+    "filter and group": Workload(
+        "lines",
+        "SELECT kind, COUNT(*) AS n, SUM(price) AS total FROM lines "
+        "WHERE shipped >= DATE '1995-01-01' AND price > 5000 GROUP BY kind ORDER BY kind",
+    ),
+    # As the first query of TPC-H: a date, two columns to group by, and aggregates of products.
+    "many aggregates": Workload(
+        "lines",
+        "SELECT kind, tax, SUM(quantity) AS quantities, SUM(price) AS prices, SUM(price * (100 - discount)) AS discounted, "
+        "SUM(price * (100 - discount) * (100 + tax)) AS charged, AVG(quantity) AS quantity, AVG(price) AS price, "
+        "AVG(discount) AS discount, COUNT(*) AS n FROM lines WHERE shipped <= DATE '1998-09-02' GROUP BY kind, tax ORDER BY kind, tax",
+    ),
+    "sort": Workload("lines", "SELECT id, price, shipped FROM lines ORDER BY price DESC, id"),
+    "100,000 groups": Workload("lines", "SELECT part, COUNT(*) AS n, SUM(price) AS total FROM lines GROUP BY part ORDER BY part"),
+}
+
+
+def days():
+    """The days of seven years from 1992 on."""
+    first = datetime.date(1992, 1, 1)
+    return [(first + datetime.timedelta(d)).isoformat() for d in range(2557)]
 
 
 def whole_numbers(rows):
@@ -51,24 +91,42 @@ def four_columns(rows, seed=1):
     def u(i, k):
         return ((seed % 1000003) * 7919 + i * (104729 + k)) % 1000003
 
-    first = datetime.date(1992, 1, 1)
-    days = [(first + datetime.timedelta(d)).isoformat() for d in range(2557)]
+    dates = days()
     yield "id,kind,shipped,amount\n"
     for i in range(1, rows + 1):
-        yield f"{i},{KINDS[u(i, 1) % 4]},{days[u(i, 2) % 2557]},{u(i, 3) - 500000}\n"
+        yield f"{i},{KINDS[u(i, 1) % 4]},{dates[u(i, 2) % 2557]},{u(i, 3) - 500000}\n"
 
 
-def make(folder, table, rows):
+def order_lines(rows):
+    """A table as that of TPC-H's lines, of whole numbers: a key, a kind, one of 100,000 parts, a day, a quantity, a price, a discount and a tax."""
+    dates = days()
+    x = 12345
+    yield "id,kind,part,shipped,quantity,price,discount,tax\n"
+    for i in range(1, rows + 1):
+        x = (x * 6364136223846793005 + 1442695040888963407) % 2**64
+        u = x >> 20
+        yield (
+            f"{i},{KINDS[u % 4]},{(u >> 2) % 100000},{dates[(u >> 7) % 2557]},{(u >> 11) % 50 + 1},"
+            f"{(u >> 13) % 100000},{(u >> 9) % 11},{(u >> 5) % 9}\n"
+        )
+
+
+TABLES = {"t": whole_numbers, "made": four_columns, "lines": order_lines}
+
+
+def make(folder, workload, rows):
     """Writes the schema, the table, line by line, and the query; gives the folder and the number of the table's bytes."""
-    place = os.path.join(folder, f"{table}-{rows}")
+    place = os.path.join(folder, "tables")
     os.mkdir(place)
+    table = workload.table
     files = {
         "schema.sql": [SCHEMAS[table]],
-        f"{table}.csv": whole_numbers(rows) if table == "t" else four_columns(rows),
-        "query.sql": [f"SELECT SUM({COLUMNS[table]}) FROM {table}\n"],
+        f"{table}.csv": TABLES[table](rows),
+        "query.sql": [workload.query + "\n"],
         "sqlite.txt": [
-            f"CREATE TABLE {table} ({SQLITE_COLUMNS[table]});\n.mode csv\n.import --skip 1 {place}/{table}.csv {table}\n",
-            f"SELECT SUM({COLUMNS[table]}) FROM {table};\n",
+            f"CREATE TABLE {table} ({SQLITE_COLUMNS[table]});\n",
+            f".mode csv\n.headers on\n.import --skip 1 {place}/{table}.csv {table}\n",
+            workload.query.replace("DATE '", "'") + ";\n",
         ],
     }
     for name, lines in files.items():
@@ -77,26 +135,30 @@ def make(folder, table, rows):
     return place, os.path.getsize(os.path.join(place, f"{table}.csv"))
 
 
-# Each tool: the words of its command, and the file that it reads as its standard input.
+# Each tool: the words of its command, and the file that it reads as its standard input; none where it has no such query.
 
 
-def voodoo(place, table):
+def voodoo(place, workload):
     schema, query = os.path.join(place, "schema.sql"), os.path.join(place, "query.sql")
     return [PROGRAM, "--db", schema, "--mode", "sql", "--text", query], os.devnull
 
 
-def sqlite(place, table):
+def sqlite(place, workload):
     return ["sqlite3", ":memory:"], os.path.join(place, "sqlite.txt")
 
 
-def pandas(place, table):
-    code = f"import pandas; print(pandas.read_csv({place + '/' + table + '.csv'!r})[{COLUMNS[table]!r}].sum())"
+def pandas(place, workload):
+    if not workload.column:
+        return None
+    code = f"import pandas; print('total'); print(pandas.read_csv({place + '/' + workload.table + '.csv'!r})[{workload.column[0]!r}].sum())"
     return [sys.executable, "-c", code], os.devnull
 
 
-def datamash(place, table):
-    column = {"t": "1", "made": "4"}[table]
-    return ["datamash", "-t,", "--header-in", "--format", "%.0f", "sum", column], f"{place}/{table}.csv"
+def datamash(place, workload):
+    if not workload.column:
+        return None
+    command = f"echo total; datamash -t, --header-in --format %.0f sum {workload.column[1]}"
+    return ["sh", "-c", command], f"{place}/{workload.table}.csv"
 
 
 def installed():
@@ -114,44 +176,92 @@ def installed():
     return tools
 
 
-def run(words, given):
-    """The last line that a command prints, its seconds, and its peak of resident memory in bytes.
+@dataclass
+class Run:
+    """What one run printed, its seconds of the processor and of the clock, and its peak of resident memory in bytes."""
 
-    The system counts a child's peak from before its program begins, so it is never below this script's own size.
-    """
-    with open(given, "rb") as lines, tempfile.TemporaryFile("w+") as out:
+    answer: object
+    cpu: float
+    wall: float
+    peak: int
+
+
+# A longer answer is kept as its sum alone, so that this script's own memory, which a child's peak counts, stays small.
+LONGEST = 1 << 16
+
+
+def answer_in(file):
+    """An answer: its fields, or the sum of a longer text, whose numbers are all whole."""
+    file.seek(0, os.SEEK_END)
+    if file.tell() <= LONGEST:
+        file.seek(0)
+        return [line.split(",") for line in file.read().decode().replace("\r", "").strip().split("\n")]
+    file.seek(0)
+    found = hashlib.sha256()
+    while piece := file.read(LONGEST):
+        found.update(piece.replace(b"\r", b""))
+    return found.hexdigest()
+
+
+def is_same_field(ours, theirs):
+    """Whether fields are equal, but for what a quotient that is cut off at its scale lacks of one that is not."""
+    if ours == theirs:
+        return True
+    try:
+        scale = len(ours.partition(".")[2])
+        return abs(float(ours) - float(theirs)) < 10**-scale
+    except ValueError:
+        return False
+
+
+def is_same(ours, theirs):
+    if isinstance(ours, str) or isinstance(theirs, str):
+        return ours == theirs
+    return len(ours) == len(theirs) and all(
+        len(a) == len(b) and all(map(is_same_field, a, b)) for a, b in zip(ours, theirs)
+    )
+
+
+def run(words, given):
+    """Runs a command. The system counts a child's peak from before its program begins, so it is never below this script's own size."""
+    with open(given, "rb") as lines, tempfile.TemporaryFile("w+b") as out:
         start = time.perf_counter()
         child = subprocess.Popen(words, stdin=lines, stdout=out)
         _, status, usage = os.wait4(child.pid, 0)
         seconds = time.perf_counter() - start
         child.returncode = os.waitstatus_to_exitcode(status)
-        out.seek(0)
-        text = out.read().strip()
-    if child.returncode != 0:
-        sys.exit(f"bench: {words[0]} ended with {child.returncode}")
-    return text.split("\n")[-1], seconds, usage.ru_maxrss * 1024
+        if child.returncode != 0:
+            sys.exit(f"bench: {words[0]} ended with {child.returncode}")
+        return Run(answer_in(out), usage.ru_utime + usage.ru_stime, seconds, usage.ru_maxrss * 1024)
 
 
-def measure(tools, place, table, rounds):
-    """For each tool its median seconds and its peak; every answer has to be the same."""
-    times = {name: [] for name in tools}
-    peaks = {name: 0 for name in tools}
-    answers = set()
+def measure(tools, place, workload, rounds):
+    """For each tool the medians of its seconds and its greatest peak; every answer has to be the same."""
+    commands = {name: tool(place, workload) for name, (tool, _version) in tools.items()}
+    runs = {name: [] for name, command in commands.items() if command}
     for _ in range(rounds):
-        for name, (command, _version) in tools.items():
-            answer, seconds, peak = run(*command(place, table))
-            answers.add(answer)
-            times[name].append(seconds)
-            peaks[name] = max(peaks[name], peak)
-    if len(answers) != 1:
-        sys.exit(f"bench: the answers differ: {sorted(answers)}")
-    return {name: (statistics.median(times[name]), peaks[name]) for name in tools}
+        for name in runs:
+            runs[name].append(run(*commands[name]))
+    ours = runs["voodoo"][0].answer
+    for name, found in runs.items():
+        if not all(is_same(ours, one.answer) for one in found):
+            sys.exit(f"bench: {name} answers otherwise than voodoo")
+    return {
+        name: Run(
+            None,
+            statistics.median(one.cpu for one in found),
+            statistics.median(one.wall for one in found),
+            max(one.peak for one in found),
+        )
+        for name, found in runs.items()
+    }
 
 
 def main():
     parser = argparse.ArgumentParser(description=__doc__.split("\n")[0])
     parser.add_argument("--rounds", type=int, default=7)
     parser.add_argument("--rows", default="1000,100000,1000000")
+    parser.add_argument("--only", help="workloads, separated by semicolons")
     given = parser.parse_args()
     # The script builds the program where it is missing or older than its sources; without words it ends with 2.
     subprocess.run([os.path.join(TOP, "voodoo")], stderr=subprocess.DEVNULL, check=False)
@@ -159,18 +269,23 @@ def main():
         sys.exit("bench: the program is not built")
     tools = installed()
     print(f"{platform.machine()}, {os.cpu_count()} processors; " + ", ".join(f"{n} {v}" for n, (_, v) in tools.items()))
-    print("| table | rows | bytes | tool | seconds | peak MB | peak / file | time / voodoo's |")
-    print("|---|---|---|---|---|---|---|---|")
+    print("| workload | rows | bytes | tool | processor s | clock s | peak MB | peak / file | processor / voodoo's |")
+    print("|---|---|---|---|---|---|---|---|---|")
     folder = tempfile.mkdtemp(prefix="voodoo-bench-")
+    chosen = given.only.split(";") if given.only else WORKLOADS
     try:
-        for table in SCHEMAS:
+        for title in chosen:
             for rows in map(int, given.rows.split(",")):
-                place, size = make(folder, table, rows)
-                found = measure(tools, place, table, given.rounds)
-                ours = found["voodoo"][0]
-                for name, (seconds, peak) in found.items():
-                    by = "" if name == "voodoo" else f"{seconds / ours:.1f}"
-                    print(f"| {table} | {rows} | {size} | {name} | {seconds:.4f} | {peak / 1e6:.1f} | {peak / size:.1f} | {by} |")
+                place, size = make(folder, WORKLOADS[title], rows)
+                found = measure(tools, place, WORKLOADS[title], given.rounds)
+                ours = found["voodoo"].cpu
+                for name, of in found.items():
+                    by = "" if name == "voodoo" else f"{of.cpu / ours:.1f}"
+                    print(
+                        f"| {title} | {rows} | {size} | {name} | {of.cpu:.4f} | {of.wall:.4f} | {of.peak / 1e6:.1f} "
+                        f"| {of.peak / size:.1f} | {by} |",
+                        flush=True,
+                    )
                 shutil.rmtree(place)
     finally:
         shutil.rmtree(folder)
