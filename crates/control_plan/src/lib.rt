@@ -8,10 +8,20 @@
 
 pub mod choices;
 pub mod examples;
+mod fault;
+mod given;
+mod lines;
+mod numbers;
 pub mod plan;
+mod reading;
+mod refusal;
+mod setting;
+mod words;
 
 pub use choices::{Grouping, Kernel, Split};
 pub use plan::ControlPlan;
+pub use reading::read_control;
+pub use refusal::{ControlKind, ControlRefusal};
 
 /// Memory ran out: the one refusal of a call that only allocates.
 pub type NoMemory = std::alloc::AllocError;
