@@ -1,5 +1,5 @@
 //! Reads a case from each line, and prints the line and below it what became of it: the rules of numbers of 128 bits, exact
-//! totals, control vectors and key paths.
+//! totals, control vectors and their runs, and key paths.
 //!
 //! | case | answer |
 //! |---|---|
@@ -7,12 +7,21 @@
 //! | `total 1 2 & 3` | the exact total and how many terms it has; what stands behind `&` is merged |
 //! | `control 0 2 0 3 : 7` | the list of so many values, or `not admissible` |
 //! | `at 0 2 0 3 : 7` | the value at that place, and the four numbers as the vector tells them |
+//! | `shifted 6 2 6 1 : -7`, `scaled`, `divided`, `reduced` | the four numbers of the control vector that the operation gives, or `none` |
+//! | `infer 0 2 0 3` | what the four numbers tell of the runs: `one run`, `runs of 3` or `by value` |
+//! | `starts 0 2 0 3 : 7` | where the runs of so many values begin |
+//! | `next 0 2 0 3 : 7 : 2` | where the next of these runs begins behind that place, or the length |
+//! | `column : 7 7 -`, `pairs : 7 7 & 1 -` | where the runs of a column begin, or of two side by side; `-` is an empty slot |
+//! | `units 3` | where the runs of so many tuples without a slot begin |
 //! | `path ".a.b"` | `a path`, or the first byte at which it is none, and why |
 //! | `below .a.b .a`, `root .` | `yes` or `no` |
 //! | `stretch .b : .b.c` | the places of the paths at or below the first |
 //!
 //! A line that is empty or begins with `#` is printed as it is.
 #![tactic(auto)]
+
+mod closed;
+mod runs;
 
 use control_vectors::{ControlVector, Total, add, floor_mod, mul, quot, shift, sub};
 use key_paths::{Path, PathRange, PathRefusal};
@@ -223,6 +232,13 @@ fn answer(alloc: Global, line: &str) -> Result<Told, AllocError> {
         "total" => total(alloc, line),
         "control" => control_list(alloc, line),
         "at" => control_at(alloc, line),
+        "shifted" | "scaled" | "divided" | "reduced" => closed::told_closed(alloc, line),
+        "infer" => runs::told_runs(alloc, line),
+        "starts" => runs::told_starts(alloc, line),
+        "next" => Ok(runs::told_next(line)),
+        "column" => runs::told_column(alloc, line),
+        "pairs" => runs::told_pairs(alloc, line),
+        "units" => runs::told_units(alloc, line),
         "path" => told_path(alloc, quoted(line)),
         "below" => Ok(told_below(alloc, word(line, 1), word(line, 2))),
         "root" => Ok(told_root(alloc, word(line, 1))),
