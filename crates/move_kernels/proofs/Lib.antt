@@ -1,0 +1,4 @@
+pub mod Stretches
+pub mod Positions
+pub mod Writers
+pub mod KernelLaws
