@@ -1,0 +1,9 @@
+CREATE TABLE sales (
+  id INTEGER PRIMARY KEY,
+  sold DATE NOT NULL,
+  region VARCHAR(10) NOT NULL,
+  item VARCHAR(12),
+  qty INTEGER NOT NULL,
+  price DECIMAL(8, 2) NOT NULL,
+  discount DECIMAL(3, 2)
+);

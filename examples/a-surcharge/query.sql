@@ -1,0 +1,1 @@
+SELECT id, price * 1.19 AS gross FROM sales WHERE price * 1.19 > 14;

@@ -1,0 +1,1 @@
+SELECT id, item FROM sales WHERE item <> 'tea' OR item IS NULL;

@@ -1,0 +1,6 @@
+SELECT item, COUNT(*) AS n
+FROM sales
+WHERE item IS NOT NULL
+GROUP BY item
+HAVING COUNT(*) > 1
+ORDER BY n DESC, item;

@@ -1,0 +1,1 @@
+SELECT COUNT(*) - COUNT(discount) AS missing FROM sales;

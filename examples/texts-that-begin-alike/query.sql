@@ -1,0 +1,1 @@
+SELECT id, item FROM sales WHERE item >= 'co' AND item < 'cp';

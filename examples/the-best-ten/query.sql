@@ -1,0 +1,1 @@
+SELECT id, qty * price AS revenue FROM sales ORDER BY revenue DESC, id;

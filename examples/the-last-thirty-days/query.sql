@@ -1,0 +1,1 @@
+SELECT id, sold FROM sales WHERE sold > DATE '2024-04-01' - INTERVAL '30' DAY ORDER BY sold DESC;

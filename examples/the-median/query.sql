@@ -1,0 +1,1 @@
+SELECT price FROM sales ORDER BY price;

