@@ -59,7 +59,7 @@ all_own : (P : Trace → Type 0) (own : Label → Trace) (paths : List Label) �
 all_own P own [] each = All-nil P
 all_own P own (p ∷ paths) each = All-cons P (own p) (map own paths) (All-head (λ p. P (own p)) p paths each) (all_own P own paths (All-tail (λ p. P (own p)) p paths each))
 
-add_traced-same : (made : Traces) (n : Label) (v : Traced) → add_traced made n v n ≡ Some v
+pub add_traced-same : (made : Traces) (n : Label) (v : Traced) → add_traced made n v n ≡ Some v
 add_traced-same made n v = ap (λ (b : Bool). if b then Some v else made n) ((bytes_eq-Decides n n).1 refl)
 
 module _ (made : Traces) (n : Label) (op : Op) (o : Outline) where

@@ -1,5 +1,5 @@
 -- Lists of traces: their paths, and what holds of each.
-use Rattle.std.proofs.Common.{◌≡◌, Bool, true, false, List, [], ◌∷◌, map, refl, ap, ◌∙◌, if◌then◌else◌}
+use Rattle.std.proofs.Common.{◌≡◌, Bool, true, false, List, [], ◌∷◌, map, refl, ap, if◌then◌else◌}
 use Rattle.std.specs.Prelude.{All, filter}
 use Rattle.std.proofs.lemmas.List.Elements.{All-cons, All-head, All-tail}
 use Rattle.programs.specs.Merges.{entered, merged}
@@ -39,10 +39,6 @@ filter_map f keeps (x ∷ xs) = by (keeps (f x)) (filter_map f keeps xs)
     by : (b : Bool) → map f (filter (λ a. keeps (f a)) xs) ≡ filter keeps (map f xs) → map f (if b then x ∷ filter (λ a. keeps (f a)) xs else filter (λ a. keeps (f a)) xs) ≡ (if b then f x ∷ filter keeps (map f xs) else filter keeps (map f xs))
     by true e = ap (λ l. f x ∷ l) e
     by false e = e
-
-pub maps_same : {A B : Type 0} (f g : A → B) (xs : List A) → ((x : A) → f x ≡ g x) → map f xs ≡ map g xs
-maps_same f g [] same = refl
-maps_same f g (x ∷ xs) same = ap (λ b. b ∷ map f xs) (same x) ∙ ap (λ l. g x ∷ l) (maps_same f g xs same)
 
 pub map_twice : {A B C : Type 0} (g : B → C) (f : A → B) (xs : List A) → map g (map f xs) ≡ map (λ x. g (f x)) xs
 map_twice g f [] = refl
